@@ -1,0 +1,84 @@
+-- Appending to a sink, counts that don't fall, and bytes that are put in several steps.
+use Rattle.std.proofs.Common.{◌≡◌, ℕ, ◌≤◌, List, [], ◌++◌, Option, Some, None, Result, Ok, Err, refl, sym, ◌∙◌, ap, append_assoc, arith}
+use Rattle.std.proofs.lemmas.Grind.{common_steps}
+use Rattle.pb_io.specs.declared.sink.PutError.{PutError}
+use Rattle.pb_io.specs.declared.sink.PutError.TheVariants as put
+use Rattle.pb_io.specs.Faults.{Rose}
+use Rattle.pb_io.specs.Sink.{SinkState, with_bytes, NoFewer, Puts}
+
+-- appending nothing leaves what is written
+pub with_bytes-nil : (written : Option (List ℕ)) → with_bytes written [] ≡ written
+with_bytes-nil None = refl
+with_bytes-nil (Some bytes) = grind (arith, common_steps)
+
+-- appending one piece and then another appends both
+pub with_bytes-append : (written : Option (List ℕ)) (a b : List ℕ) → with_bytes (with_bytes written a) b ≡ with_bytes written (a ++ b)
+with_bytes-append None a b = refl
+with_bytes-append (Some bytes) a b = ap Some (append_assoc bytes a b)
+
+pub NoFewer-refl : (n : Option ℕ) → NoFewer n n
+NoFewer-refl None = tt
+NoFewer-refl (Some n) = omega arith
+
+pub NoFewer-trans : (a b c : Option ℕ) → NoFewer a b → NoFewer b c → NoFewer a c
+NoFewer-trans None b c p q = tt
+NoFewer-trans (Some a) None c p q = absurd p
+NoFewer-trans (Some a) (Some b) None p q = absurd q
+NoFewer-trans (Some a) (Some b) (Some c) p q = omega arith
+
+-- a count that rose has risen also at a later moment
+pub Rose-later : (a b c : ℕ) → Rose a b → b ≤ c → Rose a c
+Rose-later a b c rose le = omega arith
+
+-- a count that rose has risen also since an earlier moment
+pub Rose-earlier : (a b c : ℕ) → a ≤ b → Rose b c → Rose a c
+Rose-earlier a b c le rose = omega arith
+
+-- putting nothing changes nothing
+pub Puts-nil : {T : Type 0} (sink : SinkState) (value : T) → Puts sink sink [] (Ok value)
+Puts-nil sink value = record {
+  ok = sym (with_bytes-nil sink.written);
+  err = tt;
+  flushed = NoFewer-refl sink.flushed;
+  later = omega arith;
+  cause = λ is_error. cc;
+}
+
+-- all of x was put, and putting y came out so: so came out putting both
+pub Puts-append : {T U : Type 0} (a b c : SinkState) (x y : List ℕ) (value : T) (result : Result U PutError) → Puts a b x (Ok value) → Puts b c y result → Puts a c (x ++ y) result
+Puts-append a b c x y value (Ok done) first second = record {
+  ok = second.ok ∙ ap (λ w. with_bytes w y) first.ok ∙ with_bytes-append a.written x y;
+  err = tt;
+  flushed = NoFewer-trans a.flushed b.flushed c.flushed first.flushed second.flushed;
+  later = omega arith;
+  cause = λ is_error. cc;
+}
+Puts-append a b c x y value (Err error) first second =
+    let part = second.err.part in
+    record {
+      ok = tt;
+      err = record {
+        part = x ++ part;
+        rest = second.err.rest;
+        split = ap (λ bytes. x ++ bytes) second.err.split ∙ sym (append_assoc x part second.err.rest);
+        written = second.err.written ∙ ap (λ w. with_bytes w part) first.ok ∙ with_bytes-append a.written x part;
+      };
+      flushed = NoFewer-trans a.flushed b.flushed c.flushed first.flushed second.flushed;
+      later = omega arith;
+      cause = λ is_error. Rose-earlier a.faults b.faults c.faults first.later (second.cause is_error);
+    }
+
+-- putting x ended by an error: so ends putting x and whatever would come behind it
+pub Puts-stop : {T U : Type 0} (a b : SinkState) (x y : List ℕ) (error : PutError) → Puts a b x {T = T} (Err error) → Puts a b (x ++ y) {T = U} (Err error)
+Puts-stop a b x y error stopped = record {
+  ok = tt;
+  err = record {
+    part = stopped.err.part;
+    rest = stopped.err.rest ++ y;
+    split = ap (λ bytes. bytes ++ y) stopped.err.split ∙ append_assoc stopped.err.part stopped.err.rest y;
+    written = stopped.err.written;
+  };
+  flushed = stopped.flushed;
+  later = stopped.later;
+  cause = λ is_error. stopped.cause (let same : error ≡ put.WriteFault = cc in ap Err same);
+}

@@ -1,0 +1,9 @@
+pub mod Faults
+pub mod Errors
+pub mod Sink
+pub mod Files
+pub mod Calls
+pub mod MemSink
+pub mod MemFiles
+pub mod Place
+pub mod Host

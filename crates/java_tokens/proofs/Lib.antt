@@ -1,0 +1,9 @@
+pub mod Classes
+pub mod Runs
+pub mod Spellings
+pub mod KindOf
+pub mod Cuts
+pub mod Next
+pub mod OneReading
+pub mod Steps
+pub mod Examples

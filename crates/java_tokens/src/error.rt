@@ -1,0 +1,38 @@
+use std::alloc::{AllocError, AllocFailed};
+use thiserror::Error;
+
+/// Why bytes have no tokens. A place is the offset of a byte, counted from 0; the first place counts.
+#[derive(Clone, Copy, Debug, PartialEq, Eq, Error)]
+pub enum TokenError {
+    /// At this byte stands a character that begins no token.
+    #[error("bad character at byte {0}")]
+    BadChar(u32),
+    /// From this byte on stands a digit and what goes on from it as an identifier does, which is no number.
+    #[error("bad number at byte {0}")]
+    BadNumber(u32),
+    /// Memory ran out. It may come for any bytes.
+    #[error("out of memory")]
+    OutOfMemory,
+}
+
+impl From<AllocError> for TokenError {
+    ghost use Rattle.std.specs.Prelude.{◌≡◌};
+    ghost use Rattle.java_tokens.specs.declared.error.TokenError.TheVariants.{OutOfMemory};
+
+    ghost from_gives = { λ _ error. error ≡ OutOfMemory };
+
+    fn from(_: AllocError) -> Self {
+        TokenError::OutOfMemory
+    }
+}
+
+impl<T: Drop> From<AllocFailed<T>> for TokenError {
+    ghost use Rattle.std.specs.Prelude.{◌≡◌};
+    ghost use Rattle.java_tokens.specs.declared.error.TokenError.TheVariants.{OutOfMemory};
+
+    ghost from_gives = { λ _ error. error ≡ OutOfMemory };
+
+    fn from(_: AllocFailed<T>) -> Self {
+        TokenError::OutOfMemory
+    }
+}

@@ -1,0 +1,12 @@
+use Rattle.std.proofs.Common.{◌∙◌}
+use Rattle.planb_run.proofs.Parts.{place-text}
+use Rattle.planb_run.proofs.report.write_refusal.Goals as goal
+
+pub returns-in-TooLong : goal.returns-in-TooLong
+returns-in-TooLong g c = rw c.in-TooLong.is c.put_all.ensures
+
+pub returns-in-Syntax : goal.returns-in-Syntax
+returns-in-Syntax g c =
+    let line = c.as_bytes-line.ensures.value ∙ c.format.ensures.text in
+    let column = c.as_bytes-column.ensures.value ∙ c.format-in-Syntax.ensures.text in
+    rw (c.in-Syntax.is, ← line, ← column, place-text c.as_bytes-line.result.now c.as_bytes-column.result.now) c.put_parts.ensures

@@ -1,0 +1,11 @@
+pub mod Command
+pub mod Words
+pub mod Syntax
+pub mod Resolution
+pub mod Accepted
+pub mod Reading
+pub mod Reads
+pub mod Report
+pub mod Causes
+pub mod Headline
+pub mod Stages

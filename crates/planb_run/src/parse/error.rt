@@ -1,0 +1,24 @@
+use std::alloc::AllocError;
+use thiserror::Error;
+
+/// Why tokens were refused.
+#[derive(Clone, Copy, Debug, PartialEq, Eq, Error)]
+pub(crate) enum ParseError {
+    /// They aren't of the form of the language, or break one of its rules.
+    #[error("not of the form of the language")]
+    Syntax,
+    /// Memory ran out. It may come for any tokens.
+    #[error("out of memory")]
+    OutOfMemory,
+}
+
+impl From<AllocError> for ParseError {
+    ghost use Rattle.std.specs.Prelude.{◌≡◌};
+    ghost use Rattle.planb_run.specs.declared.parse.error.ParseError.TheVariants.{OutOfMemory};
+
+    ghost from_gives = { λ _ error. error ≡ OutOfMemory };
+
+    fn from(_: AllocError) -> Self {
+        ParseError::OutOfMemory
+    }
+}

@@ -1,0 +1,64 @@
+ghost use Rattle.std.specs.Prelude.{◌≡◌, IfOk};
+ghost use Rattle.interpreter.specs.declared.program.Expr.TheVariants as expr;
+ghost use Rattle.planb_run.specs.Reading as spec;
+ghost use Rattle.planb_run.specs.Reads.{Reads};
+
+use crate::parse::cursor::Cursor;
+use crate::parse::error::ParseError;
+use crate::parse::locals::Locals;
+use interpreter::{BinOp, Expr};
+use java_tokens::TokenKind;
+use sqlite_items::Boxed;
+use std::alloc::{AllocError, Global};
+
+/// How many operands a sum may have.
+const MOST_OPERANDS: u32 = 100;
+
+/// Reads operands with signs between them, which associate to the left.
+#[tactic(auto, using(crate::proofs::Turns::next_term), unfolding(crate::specs::Reading::sum, crate::specs::Reading::terms))]
+pub(super) fn read_sum(
+    alloc: Global,
+    tokens: &mut Cursor,
+    locals: &Locals,
+) -> Result<Expr, ParseError>
+    ensures { Reads (spec.sum locals.now tokens.old) result tokens.new }
+{
+    let mut sum = read_operand(tokens, locals)?;
+    let mut operands = 1;
+    while let Some(sign) = tokens.take_sign() {
+        if operands == MOST_OPERANDS {
+            return Err(ParseError::Syntax);
+        }
+        let right = read_operand(tokens, locals)?;
+        sum = binary(alloc, sign, sum, right)?;
+        operands += 1;
+    }
+    Ok(sum)
+}
+
+/// Reads a number or the name of a local that is declared.
+#[tactic(auto, unfolding(crate::specs::Reading::operand))]
+fn read_operand(tokens: &mut Cursor, locals: &Locals) -> Result<Expr, ParseError>
+    ensures { Reads (spec.operand locals.now tokens.old) result tokens.new }
+{
+    match tokens.take() {
+        Some(TokenKind::Number(number)) => match i32::try_from(*number) {
+            Ok(value) => Ok(Expr::Int(value)),
+            Err(_) => Err(ParseError::Syntax),
+        },
+        Some(TokenKind::Ident(name)) => match locals.number_of(name) {
+            Some(number) => Ok(Expr::Local(number)),
+            None => Err(ParseError::Syntax),
+        },
+        _ => Err(ParseError::Syntax),
+    }
+}
+
+/// The operator with these operands.
+fn binary(alloc: Global, op: BinOp, left: Expr, right: Expr) -> Result<Expr, AllocError>
+    ensures { IfOk result (λ e. e ≡ expr.Binary op left right) }
+{
+    let left = Boxed::new(alloc, left)?;
+    let right = Boxed::new(alloc, right)?;
+    Ok(Expr::Binary(op, left, right))
+}

@@ -1,0 +1,313 @@
+// Whole calls of `planb` over files and sinks in memory.
+
+ghost use Rattle.std.specs.Prelude.{◌<◌};
+
+use crate::{Ending, Reported, SourceRefusal, Stop, planb};
+use pb_io::{MemFiles, MemSink};
+use std::alloc::{AllocError, Global};
+use std::process::Abort;
+use std::test::Fail;
+
+// The numbers of the calls that are to fail, counted from 1; 0 is none.
+#[derive(Clone, Copy, Default)]
+struct Failing {
+    of_files: u64,
+    write: u64,
+    flush: u64,
+    report_write: u64,
+    report_flush: u64,
+}
+
+// How a call ended, and what it left.
+#[derive(Drop)]
+struct Call {
+    ending: Ending,
+    files: MemFiles,
+    out: MemSink,
+    report: MemSink,
+}
+
+// Calls `planb` where a file `F` has these bytes and both sinks take so many bytes a write.
+fn run_planb(
+    alloc: Global,
+    words: &[&str],
+    source: &[u8],
+    largest: usize,
+    failing: Failing,
+) -> Result<Call, AllocError>
+    requires { 0 < largest }
+{
+    let words = words
+        .iter()
+        .map(|word| String::from_str(alloc, word))
+        .try_collect(alloc)?;
+    let file = (String::from_str(alloc, "F")?, source.to_vec(alloc)?);
+    let mut files = Vec::new(alloc);
+    files.push(file)?;
+    let mut files = MemFiles::new(files, [failing.of_files].to_vec(alloc)?);
+    let mut out = sink(alloc, largest, failing.write, failing.flush)?;
+    let mut report = sink(alloc, largest, failing.report_write, failing.report_flush)?;
+    let words: Vec<String> = words;
+    let ending = planb(alloc, &words, &mut files, &mut out, &mut report);
+    Ok(Call {
+        ending,
+        files,
+        out,
+        report,
+    })
+}
+
+fn sink(alloc: Global, largest: usize, write: u64, flush: u64) -> Result<MemSink, AllocError>
+    requires { 0 < largest }
+{
+    Ok(MemSink::new(largest, [write].to_vec(alloc)?, [flush].to_vec(alloc)?))
+}
+
+// A source whose main has this body.
+fn main_with(alloc: Global, body: &str) -> Result<String, AllocError> {
+    format!(in alloc; "class Main {{ public static void main(String[] args) {{ {body} }} }}")
+}
+
+// A call, by its words and the body of main, and what it gives.
+#[derive(Clone, Copy)]
+struct Row<'a> {
+    words: &'a [&'a str],
+    body: &'a str,
+    output: &'a str,
+    stop: Stop,
+    status: u8,
+    steps: u64,
+    report: &'a str,
+}
+
+const NO_PLACE: SourceRefusal = SourceRefusal::Syntax { line: 1, column: 1 };
+
+const USAGE: &str =
+    "usage: planb [--steps N] [--conflicts N] [--proof] (FILE [ARG..] | --make N)\n";
+
+fn done<'a>(words: &'a [&'a str], body: &'a str, output: &'a str, steps: u64) -> Row<'a> {
+    Row {
+        words,
+        body,
+        output,
+        stop: Stop::Done,
+        status: 0,
+        steps,
+        report: "",
+    }
+}
+
+fn spent<'a>(words: &'a [&'a str], body: &'a str, steps: u64, report: &'a str) -> Row<'a> {
+    Row {
+        words,
+        body,
+        output: "",
+        stop: Stop::StepsSpent(steps),
+        status: 4,
+        steps,
+        report,
+    }
+}
+
+// Stopped before a run.
+fn stopped<'a>(
+    words: &'a [&'a str],
+    body: &'a str,
+    stop: Stop,
+    status: u8,
+    report: &'a str,
+) -> Row<'a> {
+    Row {
+        words,
+        body,
+        output: "",
+        stop,
+        status,
+        steps: 0,
+        report,
+    }
+}
+
+fn refused<'a>(body: &'a str) -> Row<'a> {
+    stopped(
+        &["planb", "F"],
+        body,
+        Stop::Refused(NO_PLACE),
+        3,
+        "refused syntax at 1:1\n",
+    )
+}
+
+fn usage<'a>(words: &'a [&'a str]) -> Row<'a> {
+    stopped(words, "", Stop::Usage, 2, USAGE)
+}
+
+#[test]
+fn runs_programs(rt: HostRuntime) -> Result<(), Fail> {
+    let sum = "System.out.println(1 + 2);";
+    let wrapped = "System.out.println(2147483647 + 1);";
+    let local = "int x = 2; System.out.println(x - 5);";
+    let rows = [
+        done(&["planb", "F"], sum, "3\n", 4),
+        done(&["planb", "--steps", "4", "F"], sum, "3\n", 4),
+        spent(&["planb", "--steps", "3", "F"], sum, 3, "steps spent 3\n"),
+        spent(&["planb", "--steps", "0", "F"], sum, 0, "steps spent 0\n"),
+        done(&["planb", "F"], local, "-3\n", 6),
+        spent(&["planb", "--steps", "5", "F"], local, 5, "steps spent 5\n"),
+        done(&["planb", "F"], wrapped, "-2147483648\n", 4),
+        done(&["planb", "F"], "", "", 0),
+        refused("int x = 1; int x = 2;"),
+        refused("int x = x;"),
+        stopped(&["planb", "G"], sum, Stop::ReadFault, 7, "read fault\n"),
+        usage(&[]),
+        usage(&["planb"]),
+        usage(&["planb", "--steps", "-1", "F"]),
+        usage(&["planb", "--steps", "5", "--steps", "5", "F"]),
+    ];
+    let alloc = rt.alloc();
+    for row in &rows {
+        let body = row.body;
+        let source = main_with(alloc, body)?;
+        let call = run_planb(
+            alloc,
+            row.words,
+            source.as_bytes(),
+            4096,
+            Failing::default(),
+        )?;
+        assert_eq!(rt; call.ending.stop, row.stop, "{body}");
+        assert_eq!(rt; call.ending.status, row.status, "{body}");
+        assert_eq!(rt; call.ending.steps, row.steps, "{body}");
+        assert_eq!(rt; call.ending.reported, Reported::Whole, "{body}");
+        assert_eq!(rt; call.out.written(), row.output.as_bytes(), "{body}");
+        assert_eq!(rt; call.report.written(), row.report.as_bytes(), "{body}");
+        assert_eq!(rt; call.out.flushed(), row.output.len(), "{body}");
+        assert_eq!(rt; call.report.flushed(), row.report.len(), "{body}");
+    }
+    Ok(())
+}
+
+#[test]
+fn refuses_files(rt: HostRuntime) -> Result<(), Fail> {
+    let alloc = rt.alloc();
+    let longest = vec![in alloc; b' '; 1_048_576]?;
+    let too_long = vec![in alloc; b' '; 1_048_577]?;
+    let rows: [(&[u8], &[u8]); 4] = [
+        (b"", b"refused syntax at 1:1\n"),
+        (b"class Main {", b"refused syntax at 1:1\n"),
+        (&longest, b"refused syntax at 1:1\n"),
+        (&too_long, b"refused too long\n"),
+    ];
+    for (source, report) in rows {
+        let call = run_planb(alloc, &["planb", "F"], source, 4096, Failing::default())?;
+        assert_eq!(rt; call.ending.status, 3);
+        assert_eq!(rt; call.report.written(), report);
+        assert!(rt; call.out.written().is_empty());
+        assert_eq!(rt; call.files.started().len(), 1);
+    }
+    Ok(())
+}
+
+// A call of the outside that is to fail, and what a run with 3 steps then leaves: its status is 7.
+#[derive(Clone, Copy)]
+struct Failure<'a> {
+    failing: Failing,
+    stop: Stop,
+    steps: u64,
+    output: &'a str,
+    reported: Reported,
+    report: &'a str,
+}
+
+const REPORT: &str = "steps spent 3\n";
+
+fn of_files(call: u64) -> Failure<'static> {
+    Failure {
+        failing: Failing {
+            of_files: call,
+            ..Failing::default()
+        },
+        stop: Stop::ReadFault,
+        steps: 0,
+        output: "",
+        reported: Reported::Whole,
+        report: "read fault\n",
+    }
+}
+
+fn of_output(write: u64, flush: u64, steps: u64, output: &str) -> Failure<'_> {
+    Failure {
+        failing: Failing {
+            write,
+            flush,
+            ..Failing::default()
+        },
+        stop: Stop::WriteFault,
+        steps,
+        output,
+        reported: Reported::Whole,
+        report: "write fault\n",
+    }
+}
+
+fn of_report(report_write: u64, report_flush: u64, report: &str) -> Failure<'_> {
+    Failure {
+        failing: Failing {
+            report_write,
+            report_flush,
+            ..Failing::default()
+        },
+        stop: Stop::StepsSpent(3),
+        steps: 3,
+        output: "1\n",
+        reported: Reported::WriteFault,
+        report,
+    }
+}
+
+fn leaves(
+    rt: &impl Abort,
+    alloc: Global,
+    largest: usize,
+    failure: Failure,
+) -> Result<(), AllocError>
+    requires { 0 < largest }
+{
+    let source = main_with(alloc, "System.out.println(1); System.out.println(2);")?;
+    let words = ["planb", "--steps", "3", "F"];
+    let call = run_planb(alloc, &words, source.as_bytes(), largest, failure.failing)?;
+    assert_eq!(rt; call.ending.status, 7);
+    assert_eq!(rt; call.ending.stop, failure.stop);
+    assert_eq!(rt; call.ending.steps, failure.steps);
+    assert_eq!(rt; call.ending.reported, failure.reported);
+    assert_eq!(rt; call.out.written(), failure.output.as_bytes());
+    assert_eq!(rt; call.report.written(), failure.report.as_bytes());
+    Ok(())
+}
+
+// Each numbered call of the files and the sinks fails in turn, with sinks that take all bytes at once or one a write.
+#[test]
+fn ends_where_the_outside_fails(rt: HostRuntime) -> Result<(), Fail> {
+    let alloc = rt.alloc();
+    for largest in [1, 4096] {
+        // The start, the read of all bytes and the read of the end; the flushes.
+        for call in 1..=3 {
+            leaves(&rt, alloc, largest, of_files(call))?;
+        }
+        leaves(&rt, alloc, largest, of_output(0, 1, 3, "1\n"))?;
+        leaves(&rt, alloc, largest, of_report(0, 1, REPORT))?;
+    }
+    // The writes of the output and of the report's parts, each whole.
+    leaves(&rt, alloc, 4096, of_output(1, 0, 2, ""))?;
+    leaves(&rt, alloc, 4096, of_report(1, 0, ""))?;
+    leaves(&rt, alloc, 4096, of_report(2, 0, "steps spent "))?;
+    leaves(&rt, alloc, 4096, of_report(3, 0, "steps spent 3"))?;
+    // The same, a byte at a time.
+    leaves(&rt, alloc, 1, of_output(1, 0, 2, ""))?;
+    leaves(&rt, alloc, 1, of_output(2, 0, 2, "1"))?;
+    for write in 1..=REPORT.len() {
+        let prefix = REPORT.get(..write - 1).unwrap_or("");
+        leaves(&rt, alloc, 1, of_report(write as u64, 0, prefix))?;
+    }
+    Ok(())
+}

@@ -87,20 +87,25 @@ pub fn read_file<F: Files>(
     name: &str,
     limit: usize,
 ) -> Result<Vec<u8>, ReadError>
-    ensures whole { IfOk result (λ bytes. IfSome ((F.state files.old).bytes_of name.now) (λ file. bytes.items ≡ file)) }
+    ensures whole { IfOk result (λ bytes.
+        IfSome ((F.state files.old).bytes_of name.now) (λ file. bytes.items ≡ file)) }
     ensures within { IfOk result (λ bytes. vec_len bytes ≤ limit) }
     ensures there { OnOk result ((F.state files.old).lacks name.now ≡ false) }
     ensures too_long_there { IsErrOf result ReadError.TooLong → (F.state files.old).lacks name.now ≡ false }
-    ensures too_long { IsErrOf result ReadError.TooLong → IfSome ((F.state files.old).bytes_of name.now) (λ file. limit < length file) }
+    ensures too_long { IsErrOf result ReadError.TooLong
+        → IfSome ((F.state files.old).bytes_of name.now) (λ file. limit < length file) }
 
     // What is left of the file: it takes no more than one byte beyond the limit.
-    ensures taken { IfOk result (λ bytes. (F.state files.new).rest ≡ option_map (drop (vec_len bytes)) ((F.state files.old).bytes_of name.now)) }
-    ensures stopped { IsErrOf result ReadError.TooLong → (F.state files.new).rest ≡ option_map (drop (limit + 1)) ((F.state files.old).bytes_of name.now) }
+    ensures taken { IfOk result (λ bytes. (F.state files.new).rest
+        ≡ option_map (drop (vec_len bytes)) ((F.state files.old).bytes_of name.now)) }
+    ensures stopped { IsErrOf result ReadError.TooLong → (F.state files.new).rest
+        ≡ option_map (drop (limit + 1)) ((F.state files.old).bytes_of name.now) }
 
     ensures names { StartsOnce result (F.state files.old).started (F.state files.new).started name.now }
     ensures bytes { (F.state files.new).bytes_of ≡ (F.state files.old).bytes_of }
     ensures later { (F.state files.old).faults ≤ (F.state files.new).faults }
-    ensures cause { IsErrOf result ReadError.ReadFault → Rose (F.state files.old).faults (F.state files.new).faults }
+    ensures cause { IsErrOf result ReadError.ReadFault
+        → Rose (F.state files.old).faults (F.state files.new).faults }
 {
     files.start(name)?;
     let mut bytes = Vec::new(alloc);

@@ -112,7 +112,8 @@ impl Files for MemFiles {
 
     fn start(&mut self, name: &str) -> Result<(), OutsideFault>
         // A start fails at its number, and where no file has the name.
-        ensures failed { IsErrOf result OutsideFault.Failed → NextFails self.old.calls ⊎ IsNone (bytes_of self.old.files name.now) }
+        ensures failed { IsErrOf result OutsideFault.Failed
+            → NextFails self.old.calls ⊎ IsNone (bytes_of self.old.files name.now) }
         ensures not_failing { OnOk result (¬ NextFails self.old.calls) }
         ensures found { OnOk result (IsSome (bytes_of self.old.files name.now)) }
 

@@ -16,7 +16,8 @@ pub trait Sink {
         requires { 0 < length piece.now }
         ensures some { IfOk result (λ n. 0 < n) }
         ensures within { IfOk result (λ n. n ≤ length piece.now) }
-        ensures ok { IfOk result (λ n. (state self.new).written ≡ with_bytes (state self.old).written (take n piece.now)) }
+        ensures ok { IfOk result (λ n.
+            (state self.new).written ≡ with_bytes (state self.old).written (take n piece.now)) }
         ensures err { OnErr result ((state self.new).written ≡ (state self.old).written) }
         ensures flushed { NoFewer (state self.old).flushed (state self.new).flushed }
         ensures cause { HasCause (state self.old).faults (state self.new).faults result };

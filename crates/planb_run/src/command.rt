@@ -35,7 +35,8 @@ pub fn read_words(words: &[String]) -> Option<CommandLine<'_>>
 
 // A word that begins with `-` names no file.
 fn command_line(file: &str, steps: u64) -> Option<CommandLine<'_>>
-    ensures { option_map command_of result ≡ (if begins_with_dash file.now then None else Some (record { file = file.now; steps = steps })) }
+    ensures { option_map command_of result
+        ≡ (if begins_with_dash file.now then None else Some (record { file = file.now; steps = steps })) }
 {
     if file.starts_with('-') {
         return None;

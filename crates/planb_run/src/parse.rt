@@ -34,7 +34,8 @@ pub(crate) fn parse(alloc: Global, tokens: &[Token]) -> Result<Program, ParseErr
     requires { length tokens.now < 2 ^ 31 }
     ensures ok { IfOk result (IsProgramOf (kinds_of tokens.now)) }
     ensures well_typed { IfOk result IsWellTyped }
-    ensures syntax { IsErrOf result ParseError.Syntax → (program : Program) → IsProgramOf (kinds_of tokens.now) program → ⊥ }
+    ensures syntax { IsErrOf result ParseError.Syntax
+        → (program : Program) → IsProgramOf (kinds_of tokens.now) program → ⊥ }
 {
     let mut cursor = Cursor::new(tokens);
     read_source(alloc, &mut cursor)

@@ -53,7 +53,8 @@ impl Locals {
     pub(super) fn declare(&mut self, name: &Name) -> Result<bool, AllocError>
         requires { length self.old < 2 ^ 32 - 1 }
         ensures added { IfOk result (λ added. added ≡ not (list_any (is_same name.now) self.old)) }
-        ensures names { IfOk result (λ added. MatchBool added (self.new ≡ self.old ++ name.now ∷ []) (self.new ≡ self.old)) }
+        ensures names { IfOk result (λ added.
+            MatchBool added (self.new ≡ self.old ++ name.now ∷ []) (self.new ≡ self.old)) }
         ensures err { OnErr result (self.new ≡ self.old) }
     {
         Ok(self.names.insert(name.clone()?)?)

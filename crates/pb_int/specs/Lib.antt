@@ -1,0 +1,2 @@
+pub mod Int32
+pub mod Laws

@@ -1,6 +1,6 @@
 -- What an expression does, given what its parts do.
 use Rattle.std.specs.Prelude.{ℕ, ℤ, Option, Some, None, slice_get, ◌+ℤ◌, ◌-ℤ◌}
-use Rattle.std.specs.Int.{w32, int_wrap}
+use Rattle.pb_int.specs.Int32.{wrap}
 use Rattle.interpreter.specs.declared.program.BinOp.{BinOp}
 use Rattle.interpreter.specs.declared.program.BinOp.TheVariants as operator
 use Rattle.interpreter.specs.declared.program.Expr.{Expr}
@@ -11,8 +11,8 @@ use Rattle.interpreter.specs.World.{Run, gives, ◌>>=◌}
 
 -- the operators of int: the whole-number result, wrapped to 32 bits (JLS 15.18.2)
 abbrev pub binary_value : BinOp → ℤ → ℤ → ℤ
-binary_value operator.Add a b = int_wrap w32 (a +ℤ b)
-binary_value operator.Sub a b = int_wrap w32 (a -ℤ b)
+binary_value operator.Add a b = wrap (a +ℤ b)
+binary_value operator.Sub a b = wrap (a -ℤ b)
 
 -- what a look-up of a local gives: a local that isn't there has no meaning
 abbrev pub found : Option ℤ → Outcome

@@ -1,6 +1,7 @@
 ghost use Rattle.std.specs.Prelude.{◌≡◌};
 ghost use Rattle.interpreter.specs.Evaluate.{binary_value};
 
+use pb_int::{add, sub};
 use sqlite_items::{Boxed, Items};
 
 /// An operator on two `int` values, both of which are evaluated, the left one first (JLS 15.18).
@@ -16,8 +17,8 @@ impl BinOp {
         ensures { result ≡ binary_value self a b }
     {
         match self {
-            BinOp::Add => a.wrapping_add(b),
-            BinOp::Sub => a.wrapping_sub(b),
+            BinOp::Add => add(a, b),
+            BinOp::Sub => sub(a, b),
         }
     }
 }

@@ -1,4 +1,4 @@
-ghost use Rattle.std.specs.Prelude.{◌≡◌};
+ghost use Rattle.std.specs.Prelude.{◌≡◌, ◌≤◌, length};
 ghost use Rattle.std.specs.Fmt.{signed_decimal};
 
 use itoa::Buffer;
@@ -19,9 +19,10 @@ impl Digits {
 }
 
 /// The decimal text of `n`: its digits, with no leading zero, after a `-` where `n` is negative.
-/// It overwrites the text that the buffer held before.
+/// It has 11 characters at most, and overwrites the text that the buffer held before.
 pub fn decimal(n: i32, buffer: &mut Digits) -> &str
-    ensures { result.now ≡ signed_decimal n }
+    ensures text { result.now ≡ signed_decimal n }
+    ensures few { length result.now ≤ 11 }
 {
     buffer.inner.format(n)
 }

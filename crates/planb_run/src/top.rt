@@ -55,7 +55,7 @@ pub fn planb<F: Files, O: Sink, R: Sink>(
         (record { files = F.state files.new; out = O.state out.new })
         result.stop result.steps }
 
-    // What else may come where nothing failed.
+    // No stop but the one that the file determines comes, unless memory ran out or the outside failed.
     ensures complete { IsComplete (texts words.now)
         (record { files = F.state files.old; out = O.state out.old })
         (record { files = F.state files.new; out = O.state out.new })

@@ -1,18 +1,33 @@
--- Numbers that decimal digits spell.
-use Rattle.std.proofs.Common.{◌≡◌, ℕ, ◌^◌, ◌<◌, ◌≤◌, Bool, true, List, length, get_or, arith}
+-- The number that `parse` reads from decimal digits.
+use Rattle.std.proofs.Common.{◌≡◌, ℕ, ◌+◌, ◌-◌, ◌*◌, ◌<◌, ◌≤◌, true, List, length, refl, arith}
+use Rattle.std.specs.Prelude.{Result, Ok, fold}
 use Rattle.std.specs.Char.{is_ascii_digit}
 use Rattle.std.specs.List.{list_all}
-use Rattle.std.proofs.Math.Nat.{pow-le-pow_right}
+use Rattle.std.specs.Str.Parse.{ParsesUnsigned}
 use Rattle.std.proofs.lemmas.Grind.{common_steps}
+use Rattle.std.proofs.lemmas.Str.Parse.{IsDigitsTest, IsNumeralModel, numerals_by_fold, parse_gives, digits_value_short}
+use Rattle.java_tokens.specs.Spelling.{number_of}
 
--- each element passes a test that all pass
-pub list_all-at : {X : Type 0} (p : X → Bool) (xs : List X) (i : ℕ) (d : X) → i < length xs → list_all p xs ≡ true → p (get_or xs i d) ≡ true
-list_all-at p xs i d lt all = grind (arith, common_steps)
+-- all of these are decimal digits
+abbrev AreDigits : List ℕ → Type 0
+AreDigits ds = list_all is_ascii_digit ds ≡ true
 
--- the code of a decimal digit
-pub digit-bounds : (c : ℕ) → is_ascii_digit c ≡ true → (48 ≤ c) × (c ≤ 57)
-digit-bounds c is = grind (arith, common_steps)
+tells_digits : IsDigitsTest AreDigits
+tells_digits = record {
+  empty = refl;
+  parts = λ c cs all. grind (arith, common_steps);
+  more = λ c cs digit all. grind (arith, common_steps);
+}
 
--- a number of at most seventeen digits leaves room for one more in 64 bits
-pub short-fits : (n i : ℕ) → n < 10 ^ i → i < 18 → n < 10 ^ 17
-short-fits n i lt few = let ten : 0 < 10 = omega arith in let le : i ≤ 17 = omega arith in let up : 10 ^ i ≤ 10 ^ 17 = pow-le-pow_right ten le in omega arith
+-- `AreDigits` and `number_of` say what the lemmas on `parse` speak of
+own : IsNumeralModel AreDigits number_of
+own = numerals_by_fold AreDigits tells_digits (λ n ds. fold (λ sum digit. sum * 10 + (digit - 48)) n ds) (record {
+  empty = λ n. refl;
+  more = λ n c cs digit. refl;
+})
+
+-- at most eighteen digits are parsed as the number that they spell
+pub parsed : {E : Type 0} (ds : List ℕ) (r : Result ℕ E) → ParsesUnsigned 64 10 ds r → list_all is_ascii_digit ds ≡ true → 0 < length ds → length ds ≤ 18 → r ≡ Ok (number_of ds)
+parsed ds r parses all some few =
+    let short = digits_value_short own ds 18 all few in
+    parse_gives own 64 ds r parses all some (omega (arith, short))

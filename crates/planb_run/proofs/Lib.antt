@@ -5,8 +5,8 @@ pub mod Turns
 pub mod Typed
 pub mod Programs
 mod Rows
-pub mod Digits
 pub mod Parts
 pub mod Loading
 pub mod Obeying
 pub mod CommandRows
+pub mod Digits

@@ -1,4 +1,4 @@
-ghost use Rattle.std.specs.Prelude.{◌≡◌, ◌≤◌, length, IsTrue, None, Some, if◌then◌else◌};
+ghost use Rattle.std.specs.Prelude.{◌≡◌, None, Some, if◌then◌else◌};
 ghost use Rattle.std.specs.Char.{is_ascii_digit};
 ghost use Rattle.std.specs.List.{list_all};
 ghost use Rattle.std.specs.Option.{option_map};
@@ -44,7 +44,8 @@ fn command_line(file: &str, steps: u64) -> Option<CommandLine<'_>>
     Some(CommandLine { file, steps })
 }
 
-// The number that one to eighteen decimal digits spell.
+// The number that one to eighteen decimal digits spell. Other words have none.
+#[tactic(auto, using(crate::proofs::Digits::parsed))]
 fn budget(word: &str) -> Option<u64>
     ensures { result ≡ (if is_budget word.now then Some (number_of word.now) else None) }
 {
@@ -52,24 +53,11 @@ fn budget(word: &str) -> Option<u64>
     if digits.is_empty() || digits.len() > 18 || !are_digits(digits) {
         return None;
     }
-    Some(number(digits))
+    word.parse().ok()
 }
 
 fn are_digits(bytes: &[u8]) -> bool
     ensures { result ≡ list_all is_ascii_digit bytes.now }
 {
     bytes.iter().all(|byte| byte.is_ascii_digit())
-}
-
-// The number that these decimal digits spell.
-fn number(digits: &[u8]) -> u64
-    requires digits { IsTrue (list_all is_ascii_digit digits.now) }
-    requires few { length digits.now ≤ 18 }
-    ensures { result ≡ number_of digits.now }
-{
-    let mut number = 0;
-    for digit in digits {
-        number = number * 10 + u64::from(*digit - b'0');
-    }
-    number
 }

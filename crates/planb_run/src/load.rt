@@ -59,7 +59,7 @@ impl From<ParseError> for Stop {
     }
 }
 
-/// The program of the source behind a file's name, or why there is none. It starts the file once and no other.
+/// The program of the source behind a file's name, or why there is none. It starts the file at most once, and no other.
 pub fn load<F: Files>(alloc: Global, files: &mut F, file: &str) -> Result<Program, Stop>
     ensures ok { IfOk result (HasProgram (F.state files.old) file.now) }
     ensures well_typed { IfOk result IsWellTyped }

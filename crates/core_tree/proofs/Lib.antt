@@ -1,0 +1,5 @@
+pub mod ExprNodes
+pub mod StmtNodes
+pub mod TypeNodes
+pub mod WorkedPrograms
+pub mod WorkedDispatch

@@ -1,0 +1,31 @@
+//! The resolved program: the numbered tree that a checked source becomes and that the machine runs.
+//!
+//! Names are gone from it, but for those that a report shows: a local, a field, a class, a method and a constructor are
+//! numbers. `Text` is the text of a literal and of a run, shared and never changed. The crate's one contract is
+//! `specs/WellTyped`: what a program must meet so that it never gets stuck.
+//!
+//! Read `ty`, `text`, `program`, `stmt`, `expr`, `operator` and `built_in`, then the files of `specs/` in their order.
+//! `proofs/WorkedPrograms` and `proofs/WorkedDispatch` compute programs against them, well typed ones and others.
+#![tactic(auto)]
+
+mod built_in;
+mod error;
+mod expr;
+mod operator;
+mod program;
+mod stmt;
+#[cfg(test)]
+mod tests;
+mod text;
+mod ty;
+mod what;
+
+pub use built_in::BuiltIn;
+pub use error::OutOfMemory;
+pub use expr::{Expr, Site};
+pub use operator::{BinOp, UnOp, UpOp};
+pub use program::{Class, Field, Maker, Method, Parent, Program};
+pub use stmt::{Catch, Stmt, Target};
+pub use text::Text;
+pub use ty::Ty;
+pub use what::What;

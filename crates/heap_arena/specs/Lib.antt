@@ -1,0 +1,4 @@
+pub mod Heap
+pub mod Marks
+pub mod Reach
+pub mod Changes

@@ -1,0 +1,15 @@
+pub mod Places
+pub mod Analysis
+pub mod Watched
+pub mod Scanning
+pub mod Noted
+pub mod Pushing
+pub mod FindingLatest
+pub mod Pigeons
+pub mod Holding
+pub mod Decisions
+pub mod Inserting
+pub mod Returning
+pub mod Satisfying
+pub mod Logging
+pub mod Counting

@@ -1,0 +1,6 @@
+pub mod Wholes
+pub mod Steps
+pub mod Widths
+pub mod Joins
+pub mod Comparisons
+pub mod Sums

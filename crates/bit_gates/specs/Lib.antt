@@ -1,0 +1,4 @@
+pub mod Whole
+pub mod Bits
+pub mod Digits
+pub mod Totals

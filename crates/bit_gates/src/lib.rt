@@ -1,0 +1,26 @@
+//! Whole numbers in a net of gates, without loss.
+//!
+//! `Bits` are nodes whose values are a number in two's complement, with a bound on its magnitude that gives the
+//! width: the least one at which every number within the bound fits. So no sum is ever cut off.
+//!
+//! Used above: each call adds gates to a net and gives the bits of a result; its contract says which number these
+//! mean in the net and in each net that continues it, whatever the inputs' values.
+//!
+//! Read `bits`, `digits`, then `arithmetic`, `compare`, `product` and `total`.
+#![tactic(auto)]
+
+mod arithmetic;
+mod bits;
+mod compare;
+mod constants;
+mod digits;
+mod negation;
+#[cfg(test)]
+mod tests;
+mod total;
+
+pub use arithmetic::{add, minus, neg};
+pub use bits::Bits;
+pub use compare::{equal, less};
+pub use constants::constant;
+pub use total::{count, sum};

@@ -1,0 +1,4 @@
+pub mod GateClauses
+pub mod Growth
+pub mod Meaning
+pub mod Values

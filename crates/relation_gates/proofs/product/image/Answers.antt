@@ -1,0 +1,12 @@
+use Rattle.std.proofs.Common.{◌≡◌, ◌<◌, ◌≤◌, ◌+◌, ◌*◌, ◌++◌, ◌∷◌, [], ◌||◌, ◌&&◌, ◌∙◌, length, get_or, arith, sym, ap, subst, refl}
+use Rattle.gate_net.specs.Net.{Grows, IsNode, node_value}
+use Rattle.gate_net.proofs.Growth.{grows_chain, grows-within, continues-then, continues-same}
+use Rattle.relation_gates.specs.Relations.{member, edge, IsRow, IsMatrix}
+use Rattle.relation_gates.specs.Sets.{combined, some_below}
+use Rattle.relation_gates.proofs.Rows.{RowAt, row-at, nodes-push, rows-push, matrix-on, size-push, member-next, edge-next, turn, turn_more, entry-is, some-more, some-iff, if-ok}
+use Rattle.relation_gates.proofs.product.image.Goals as goal
+
+pub returns-clause-value : goal.returns-clause-value
+returns-clause-value c = if-ok c.image_row.result (λ row is. λ later f inputs y h.
+    let value = node_value later inputs in
+    some-iff (length c.args.r.now) (λ x. member value c.args.s.now x) (λ x. edge value c.args.r.now x y) (member value row y) (is later f inputs y h)) c.image_row.ensures.value

@@ -1,17 +1,8 @@
 -- A list is the run of elements in front that pass a test, and what stands behind them.
-use Rattle.std.proofs.Common.{◌≡◌, ℕ, ◌+◌, ◌<◌, suc, Bool, true, false, List, [], ◌∷◌, ◌++◌, length, take, drop, refl, ◌∙◌, subst, arith}
+use Rattle.std.proofs.Common.{◌≡◌, ℕ, ◌+◌, suc, Bool, true, false, List, [], ◌∷◌, length, take, drop, refl, subst, arith}
 use Rattle.std.specs.List.{list_all, prefix_len}
-use Rattle.std.proofs.lemmas.Bool.{and_parts, and_from, cond-true, cond-false, cond_both}
+use Rattle.std.proofs.lemmas.Bool.{and_parts, and_from, cond_both}
 use Rattle.java_tokens.specs.Characters.{first_passes}
-
--- where what stands behind fails, the run is what stands in front
-pub prefix_len-seam : (p : ℕ → Bool) (xs ys : List ℕ) → list_all p xs ≡ true → first_passes p ys ≡ false → prefix_len p (xs ++ ys) ≡ length xs
-prefix_len-seam p [] [] passes fails = refl
-prefix_len-seam p [] (y ∷ ys) passes fails = cond-false (p y) _ _ fails
-prefix_len-seam p (x ∷ xs) ys passes fails =
-    let both = and_parts (p x) (list_all p xs) passes in
-    let more = prefix_len-seam p xs ys both.1 fails in
-    cond-true (p x) (1 + prefix_len p (xs ++ ys)) 0 both.0 ∙ omega (arith, more)
 
 -- the run passes
 pub list_all-run : (p : ℕ → Bool) (xs : List ℕ) → list_all p (take (prefix_len p xs) xs) ≡ true
@@ -37,19 +28,6 @@ list_all-weaker p q weaker [] passes = refl
 list_all-weaker p q weaker (x ∷ xs) passes =
     let both = and_parts (p x) (list_all p xs) passes in
     and_from (q x) (list_all q xs) (weaker x both.0) (list_all-weaker p q weaker xs both.1)
-
-pub first_passes-weaker : (p q : ℕ → Bool) → ((c : ℕ) → p c ≡ true → q c ≡ true) → (xs : List ℕ) → first_passes p xs ≡ true → first_passes q xs ≡ true
-first_passes-weaker p q weaker [] starts = starts
-first_passes-weaker p q weaker (x ∷ xs) starts = weaker x starts
-
-pub first_passes-not : (p q : ℕ → Bool) → ((c : ℕ) → p c ≡ true → q c ≡ false) → (xs : List ℕ) → first_passes p xs ≡ true → first_passes q xs ≡ false
-first_passes-not p q excludes [] starts = refl
-first_passes-not p q excludes (x ∷ xs) starts = excludes x starts
-
--- a list begins as its front does, if there is one
-pub first_passes-append : (p : ℕ → Bool) (xs ys : List ℕ) → 0 < length xs → first_passes p (xs ++ ys) ≡ first_passes p xs
-first_passes-append p [] ys some = absurd (omega arith)
-first_passes-append p (x ∷ xs) ys some = refl
 
 -- a list that passes throughout and doesn't begin with what passes is empty
 pub no_run : (p : ℕ → Bool) (xs : List ℕ) → list_all p xs ≡ true → first_passes p xs ≡ false → length xs ≡ 0

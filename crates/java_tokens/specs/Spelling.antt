@@ -1,14 +1,13 @@
--- The texts of keywords and operators, and the kinds of token that a text can be.
-use Rattle.std.specs.Prelude.{◌≡◌, ◌≢◌, ◌≤◌, ℕ, IsTrue, List, [], ◌∷◌, length, fold, codes}
-use Rattle.std.specs.Prelude.{◌+◌, ◌*◌, ◌-◌}
+-- The texts of keywords and operators, and which texts are those of a token of each kind.
+use Rattle.std.specs.Prelude.{◌≡◌, ◌≢◌, ◌≤◌, ◌⊎◌, ℕ, ◌+◌, ◌*◌, ◌-◌, true, IsTrue, List, [], ◌∷◌, ◌++◌, length, fold, codes, Some}
 use Rattle.std.specs.List.{list_all}
 use Rattle.java_tokens.specs.declared.token.TokenKind.{TokenKind}
-use Rattle.java_tokens.specs.declared.token.TokenKind.TheVariants.{Ident, Number, Word, Op, End}
+use Rattle.java_tokens.specs.declared.token.TokenKind.TheVariants.{Ident, Number, Text, Word, Op, End}
 use Rattle.java_tokens.specs.declared.token.Keyword.{Keyword}
 use Rattle.java_tokens.specs.declared.token.Keyword.TheVariants as keyword
 use Rattle.java_tokens.specs.declared.token.Operator.{Operator}
 use Rattle.java_tokens.specs.declared.token.Operator.TheVariants as operator
-use Rattle.java_tokens.specs.Characters.{is_digit, is_identifier_start, is_identifier_part, first_passes}
+use Rattle.java_tokens.specs.Characters.{is_digit, is_identifier_start, is_identifier_part, is_plain, escaped, first_passes}
 
 -- the keywords (JLS 3.9, but for `_`, which is an identifier here), and the three literals that are spelled like
 -- them (JLS 3.10)
@@ -67,19 +66,58 @@ keyword_text keyword.True = codes "true"
 keyword_text keyword.False = codes "false"
 keyword_text keyword.Null = codes "null"
 
--- the separators and operators (JLS 3.11, 3.12)
+-- the separators and operators (JLS 3.11, 3.12), and the signs of the contract language: `..`, `#`, `=>`, `<=>`
 abbrev pub operator_text : Operator → List ℕ
-operator_text operator.LeftBrace = codes "{"
-operator_text operator.RightBrace = codes "}"
 operator_text operator.LeftParen = codes "("
 operator_text operator.RightParen = codes ")"
+operator_text operator.LeftBrace = codes "{"
+operator_text operator.RightBrace = codes "}"
 operator_text operator.LeftBracket = codes "["
 operator_text operator.RightBracket = codes "]"
 operator_text operator.Semicolon = codes ";"
+operator_text operator.Comma = codes ","
 operator_text operator.Dot = codes "."
+operator_text operator.DotDot = codes ".."
 operator_text operator.Assign = codes "="
+operator_text operator.Greater = codes ">"
+operator_text operator.Less = codes "<"
+operator_text operator.Not = codes "!"
+operator_text operator.Tilde = codes "~"
+operator_text operator.Question = codes "?"
+operator_text operator.Colon = codes ":"
+operator_text operator.Hash = codes "#"
+operator_text operator.Equal = codes "=="
+operator_text operator.LessEqual = codes "<="
+operator_text operator.GreaterEqual = codes ">="
+operator_text operator.NotEqual = codes "!="
+operator_text operator.AndAnd = codes "&&"
+operator_text operator.OrOr = codes "||"
+operator_text operator.Increment = codes "++"
+operator_text operator.Decrement = codes "--"
 operator_text operator.Plus = codes "+"
 operator_text operator.Minus = codes "-"
+operator_text operator.Star = codes "*"
+operator_text operator.Slash = codes "/"
+operator_text operator.And = codes "&"
+operator_text operator.Or = codes "|"
+operator_text operator.Xor = codes "^"
+operator_text operator.Percent = codes "%"
+operator_text operator.ShiftLeft = codes "<<"
+operator_text operator.ShiftRight = codes ">>"
+operator_text operator.UnsignedShiftRight = codes ">>>"
+operator_text operator.PlusAssign = codes "+="
+operator_text operator.MinusAssign = codes "-="
+operator_text operator.StarAssign = codes "*="
+operator_text operator.SlashAssign = codes "/="
+operator_text operator.AndAssign = codes "&="
+operator_text operator.OrAssign = codes "|="
+operator_text operator.XorAssign = codes "^="
+operator_text operator.PercentAssign = codes "%="
+operator_text operator.ShiftLeftAssign = codes "<<="
+operator_text operator.ShiftRightAssign = codes ">>="
+operator_text operator.UnsignedShiftRightAssign = codes ">>>="
+operator_text operator.Implies = codes "=>"
+operator_text operator.Iff = codes "<=>"
 
 -- an identifier: a start character, then parts of identifiers, and no keyword (JLS 3.8)
 pub record IsIdentifier (text : List ℕ) : Type 0 where
@@ -98,10 +136,26 @@ pub record IsNumber (text : List ℕ) : Type 0 where
   pub few : length text ≤ 10
   pub no_leading_zero : (rest : List ℕ) → text ≡ 48 ∷ rest → rest ≡ []
 
+-- a character of a string is spelled by itself, or by an escape (JLS 3.10.5, 3.10.7)
+abbrev pub SpellsCharacter : ℕ → List ℕ → Type 0
+SpellsCharacter c text =
+    ((text ≡ c ∷ []) × (is_plain c ≡ true))
+    ⊎ ((letter : ℕ) × (text ≡ 92 ∷ letter ∷ []) × (escaped letter ≡ Some c))
+
+-- the characters of a string are spelled one behind another
+abbrev pub SpellsCharacters : List ℕ → List ℕ → Type 0
+SpellsCharacters [] text = text ≡ []
+SpellsCharacters (c ∷ cs) text = (first rest : List ℕ) × (text ≡ first ++ rest) × SpellsCharacter c first × SpellsCharacters cs rest
+
+-- a string with these characters: their spellings between two `"`
+abbrev pub IsString : List ℕ → List ℕ → Type 0
+IsString characters text = (body : List ℕ) × (text ≡ 34 ∷ (body ++ 34 ∷ [])) × SpellsCharacters characters body
+
 -- the text is one of a token of this kind
 abbrev pub IsSpelled : TokenKind → List ℕ → Type 0
 IsSpelled (Ident name) text = (text ≡ name) × IsIdentifier text
 IsSpelled (Number n) text = (n ≡ number_of text) × IsNumber text
+IsSpelled (Text characters) text = IsString characters text
 IsSpelled (Word k) text = text ≡ keyword_text k
 IsSpelled (Op o) text = text ≡ operator_text o
 IsSpelled End text = ⊥

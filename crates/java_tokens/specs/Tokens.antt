@@ -1,45 +1,55 @@
 -- When a list of tokens is that of the bytes: a relation on the whole text.
-use Rattle.std.specs.Prelude.{◌≡◌, ℕ, ◌+◌, IsTrue, false, List, [], ◌∷◌, ◌++◌, length}
-use Rattle.std.specs.List.{list_all}
+use Rattle.std.specs.Prelude.{◌≡◌, ℕ, ◌+◌, true, List, [], ◌∷◌, ◌++◌, encode_utf8_all}
+use Rattle.std.specs.Str.{all_scalars}
+use Rattle.java_tokens.specs.declared.lexeme.Lexeme.{Lexeme}
+use Rattle.java_tokens.specs.declared.lexeme.Lexeme.TheVariants as lexeme
 use Rattle.java_tokens.specs.declared.token.Token.{Token}
+use Rattle.java_tokens.specs.declared.token.TokenKind.{TokenKind}
 use Rattle.java_tokens.specs.declared.token.TokenKind.TheVariants.{End}
-use Rattle.java_tokens.specs.Characters.{is_white, is_identifier_part, first_passes}
-use Rattle.java_tokens.specs.Spelling.{IsSpelled}
+use Rattle.java_tokens.specs.Lexemes.{IsLexeme, IsLongest}
+use Rattle.java_tokens.specs.Places.{offset, line, column}
 
--- No longer token begins where this text stands: where the text is made of parts of identifiers, as names, words and
--- numbers are, what stands behind it is no such part. Each other token is one character long (JLS 3.2).
-abbrev pub IsLongest : List ℕ → List ℕ → Type 0
-IsLongest text behind = IsTrue (first_passes is_identifier_part text) → first_passes is_identifier_part behind ≡ false
-
--- from the offset at, behind white space, this token is the next one of the text xs, and ys stands behind it
-pub record IsNext (at : ℕ) (xs : List ℕ) (token : Token) (ys : List ℕ) : Type 0 where
-  pub gap : List ℕ
+-- a part of a source: its text, and what it is
+pub record Piece : Type 0 where
+  pub lexeme : Lexeme
   pub text : List ℕ
-  pub split : xs ≡ gap ++ text ++ ys
-  pub white : IsTrue (list_all is_white gap)
-  pub start : token.start ≡ at + length gap
-  pub end : token.end ≡ token.start + length text
-  pub spelled : IsSpelled token.kind text
-  pub longest : IsLongest text ys
 
--- from the offset at, these tokens are the next ones of the text xs, and the rest stands behind them
-abbrev pub AreNext : ℕ → List ℕ → List Token → List ℕ → Type 0
-AreNext at xs [] rest = xs ≡ rest
-AreNext at xs (token ∷ tokens) rest = (ys : List ℕ) × IsNext at xs token ys × AreNext token.end ys tokens rest
+abbrev pub IsWellFormed : Lexeme → Type 0
+IsWellFormed (lexeme.Malformed flaw) = ⊥
+IsWellFormed _ = Unit {0}
 
--- the bytes are these tokens, then white space, and then, from the offset at, what stands behind
-pub record Reaches (bytes : List ℕ) (tokens : List Token) (at : ℕ) (behind : List ℕ) : Type 0 where
-  pub gap : List ℕ
-  pub next : AreNext 0 bytes tokens (gap ++ behind)
-  pub white : IsTrue (list_all is_white gap)
-  pub place : at + length behind ≡ length bytes
+-- the characters are these pieces, each well formed and the longest that begins at its place, and then the rest
+abbrev pub ArePieces : List Piece → List ℕ → List ℕ → Type 0
+ArePieces [] characters rest = characters ≡ rest
+ArePieces (piece ∷ pieces) characters rest =
+    (behind : List ℕ) × (characters ≡ piece.text ++ behind) × IsLexeme piece.lexeme piece.text × IsWellFormed piece.lexeme
+    × IsLongest piece.text behind × ArePieces pieces behind rest
 
--- the token behind the last byte
-abbrev pub end_token : List ℕ → Token
-end_token bytes = record { kind = End; start = length bytes; end = length bytes }
+-- a token with this text, behind these characters
+abbrev pub token_at : List ℕ → List ℕ → TokenKind → Token
+token_at front text kind = record {
+  kind = kind;
+  start = offset front;
+  end = offset front + offset text;
+  line = line front;
+  column = column front;
+}
 
--- the tokens of the bytes: those that reach their end, and then the token of the end
+-- the token that a piece behind these characters is, if it is one
+abbrev pub token_of : List ℕ → List ℕ → Lexeme → List Token
+token_of front text (lexeme.Token kind) = token_at front text kind ∷ []
+token_of front text _ = []
+
+-- the tokens among pieces that stand behind these characters
+abbrev pub tokens_of : List ℕ → List Piece → List Token
+tokens_of front [] = []
+tokens_of front (piece ∷ pieces) = token_of front piece.text piece.lexeme ++ tokens_of (front ++ piece.text) pieces
+
+-- the tokens of the bytes: they are UTF-8, and their characters are pieces, whose tokens these are, with that of the end
 pub record AreTokens (bytes : List ℕ) (tokens : List Token) : Type 0 where
-  pub front : List Token
-  pub reached : Reaches bytes front (length bytes) []
-  pub all : tokens ≡ front ++ end_token bytes ∷ []
+  pub characters : List ℕ
+  pub scalars : all_scalars characters ≡ true
+  pub encoded : bytes ≡ encode_utf8_all characters
+  pub pieces : List Piece
+  pub reached : ArePieces pieces characters []
+  pub all : tokens ≡ tokens_of [] pieces ++ token_at characters [] End ∷ []

@@ -1,6 +1,7 @@
 ghost use Rattle.std.specs.Prelude.{◌≡◌, ◌≢◌, IfSome, IfNone};
 
 use crate::Keyword;
+use crate::text::is_text;
 
 /// Every keyword once.
 const KEYWORDS: [Keyword; 53] = [
@@ -125,12 +126,12 @@ impl Keyword {
     }
 
     /// The keyword that this text is, if it is one.
-    pub(crate) fn from_text(text: &[u8]) -> Option<Keyword>
+    pub(crate) fn from_text(text: &[char]) -> Option<Keyword>
         ensures some { IfSome result (λ keyword. text.now ≡ keyword_text keyword) }
         ensures none { IfNone result ((k : Keyword) → text.now ≢ keyword_text k) }
     {
         for keyword in KEYWORDS {
-            if keyword.text().as_bytes() == text {
+            if is_text(text, keyword.text()) {
                 return Some(keyword);
             }
         }

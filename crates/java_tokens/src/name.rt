@@ -4,7 +4,7 @@ use std::alloc::{AllocError, Global};
 use std::hash::{Hash, Hasher};
 use std::marker::Model;
 
-/// The characters of an identifier. Contracts see it as their list.
+/// The characters of an identifier, or those that a string means. Contracts see it as their list.
 #[derive(Debug, Drop)]
 pub struct Name {
     characters: Vec<char>,
@@ -26,12 +26,11 @@ impl Name {
         Name { characters }
     }
 
-    /// The name with these ASCII characters.
-    pub(crate) fn from_ascii(alloc: Global, text: &[u8]) -> Result<Name, AllocError>
-        ensures { IfOk result (λ name. name ≡ text.now) }
+    /// The name with a copy of these characters.
+    pub(crate) fn copied(alloc: Global, characters: &[char]) -> Result<Name, AllocError>
+        ensures { IfOk result (λ name. name ≡ characters.now) }
     {
-        let characters = text.iter().map(|byte| char::from(*byte)).collect(alloc)?;
-        Ok(Name::new(characters))
+        Ok(Name::new(characters.to_vec(alloc)?))
     }
 
     /// The characters in order.

@@ -1,98 +1,122 @@
-ghost use Rattle.std.specs.Prelude.{◌≡◌, ◌+◌, ◌<◌, ◌≤◌, ◌^◌, length, vec_len, IfOk, IfErr};
-ghost use Rattle.std.specs.List.{prefix_len};
-ghost use Rattle.java_tokens.specs.Characters.{is_white, is_identifier_part};
-ghost use Rattle.java_tokens.specs.Spelling.{IsSpelled};
+ghost use Rattle.std.specs.Prelude.{◌≡◌, ◌+◌, ◌-◌, ◌<◌, ◌≤◌, ◌^◌, length, take, drop, vec_len, IfOk, IfErr};
+ghost use Rattle.std.specs.Str.{StartsWithNoChar};
+ghost use Rattle.java_tokens.specs.Lexemes.{IsLexeme};
+ghost use Rattle.java_tokens.specs.Places.{offset};
 ghost use Rattle.java_tokens.specs.Tokens.{AreTokens};
 ghost use Rattle.java_tokens.specs.Faults.{HasFault};
-ghost use Rattle.java_tokens.specs.Reading.{text_len, IsCandidate, IsFaultOf};
+ghost use Rattle.java_tokens.specs.Reading.{IsPlace, IsFaultOf, HasTokens, StopsAt};
 
-use crate::characters::{is_digit, is_identifier_part, is_white};
-use crate::number::number_of;
-use crate::{Keyword, Name, Operator, Token, TokenError, TokenKind};
+use crate::lexeme::{Flaw, Lexeme};
+use crate::place::Place;
+use crate::scan::scan;
+use crate::{Token, TokenError, TokenKind};
 use std::alloc::Global;
+use std::str;
 
-/// How many characters of white space stand at the front.
-fn white_len(bytes: &[u8]) -> usize
-    ensures count { result ≡ prefix_len is_white bytes.now }
-    ensures within { result ≤ length bytes.now }
+/// The longest front of the bytes that is UTF-8.
+fn text_of(bytes: &[u8]) -> &str
+    ensures within { length result.now ≤ length bytes.now }
+    ensures front { result.now ≡ take (length result.now) bytes.now }
+    ensures stuck { StartsWithNoChar (drop (length result.now) bytes.now) }
 {
-    bytes.iter().take_while(|byte| is_white(**byte)).count()
-}
-
-/// How many parts of identifiers stand at the front.
-fn part_len(bytes: &[u8]) -> usize
-    ensures count { result ≡ prefix_len is_identifier_part bytes.now }
-    ensures within { result ≤ length bytes.now }
-{
-    bytes
-        .iter()
-        .take_while(|byte| is_identifier_part(**byte))
-        .count()
-}
-
-/// How long the text of the token at the front is.
-fn text_len(bytes: &[u8]) -> usize
-    requires { 0 < length bytes.now }
-    ensures value { result ≡ text_len bytes.now }
-    ensures within { result ≤ length bytes.now }
-{
-    part_len(bytes).max(1)
-}
-
-/// What the token with this text is. `at` is the place of the text, for the error.
-fn kind_of(alloc: Global, text: &[u8], at: u32) -> Result<TokenKind, TokenError>
-    requires { IsCandidate text.now }
-    ensures ok { IfOk result (λ kind. IsSpelled kind text.now) }
-    ensures err { IfErr result (IsFaultOf text.now at) }
-{
-    let first = text[0];
-    if is_digit(first) {
-        return number_of(text)
-            .map(TokenKind::Number)
-            .ok_or(TokenError::BadNumber(at));
+    match str::from_utf8(bytes) {
+        Ok(text) => text,
+        Err(error) => str::from_utf8(&bytes[..error.valid_up_to()]).unwrap(),
     }
-    if is_identifier_part(first) {
-        return match Keyword::from_text(text) {
-            Some(keyword) => Ok(TokenKind::Word(keyword)),
-            None => Ok(TokenKind::Ident(Name::from_ascii(alloc, text)?)),
-        };
+}
+
+/// The error of a malformed text, which stands at `place` and takes the characters from `from` to before `to`. They are
+/// all of the file where `whole` is true; else a bad byte stands behind them, and it counts where a text is open there.
+fn fault_of(
+    flaw: Flaw,
+    place: Place,
+    characters: &[char],
+    whole: bool,
+    from: usize,
+    to: usize,
+) -> TokenError
+    requires order { from ≤ to }
+    requires within { to ≤ length characters.now }
+    requires few { offset characters.now < 2 ^ 31 }
+    requires here { IsPlace (take from characters.now) place }
+    requires flawed { IsLexeme (Lexeme.Malformed flaw) (take (to - from) (drop from characters.now)) }
+    ensures { IsFaultOf flaw characters.now whole from to result }
+{
+    match flaw {
+        Flaw::Character => TokenError::BadChar(place.offset),
+        Flaw::Number => TokenError::BadNumber(place.offset),
+        Flaw::Escape => TokenError::BadChar(place.moved(characters, from, to - 2).offset),
+        Flaw::OpenString | Flaw::OpenComment => {
+            if to == characters.len() && !whole {
+                TokenError::BadUtf8(place.moved(characters, from, to).offset)
+            } else {
+                TokenError::Unclosed(place.offset)
+            }
+        }
     }
-    Operator::from_byte(first)
-        .map(TokenKind::Op)
-        .ok_or(TokenError::BadChar(at))
+}
+
+/// A token that stands at `place`, up to before the byte `end`.
+fn token(kind: TokenKind, place: Place, end: u32) -> Token
+    ensures kind { result.kind ≡ kind }
+    ensures start { result.start ≡ place.offset }
+    ensures end { result.end ≡ end }
+    ensures line { result.line ≡ place.line }
+    ensures column { result.column ≡ place.column }
+{
+    Token {
+        kind,
+        start: place.offset,
+        end,
+        line: place.line,
+        column: place.column,
+    }
+}
+
+/// The tokens of these characters, which are all of the file where `whole` is true; else a bad byte stands behind them.
+fn read(alloc: Global, characters: &[char], whole: bool) -> Result<Vec<Token>, TokenError>
+    requires { offset characters.now < 2 ^ 31 }
+    ensures ok { IfOk result (λ tokens. HasTokens characters.now whole tokens.items) }
+    ensures few { IfOk result (λ tokens. vec_len tokens ≤ length characters.now + 1) }
+    ensures err { IfErr result (StopsAt characters.now whole) }
+{
+    let mut tokens = Vec::new(alloc);
+    let mut at = 0;
+    let mut place = Place::START;
+    while at < characters.len() {
+        let scanned = scan(alloc, &characters[at..])?;
+        let end = at + scanned.len;
+        let behind = place.moved(characters, at, end);
+        match scanned.lexeme {
+            Lexeme::White | Lexeme::Comment => {}
+            Lexeme::Token(kind) => tokens.push(token(kind, place, behind.offset))?,
+            Lexeme::Malformed(flaw) => {
+                return Err(fault_of(flaw, place, characters, whole, at, end));
+            }
+        }
+        at = end;
+        place = behind;
+    }
+    if !whole {
+        return Err(TokenError::BadUtf8(place.offset));
+    }
+    tokens.push(token(TokenKind::End, place, place.offset))?;
+    Ok(tokens)
 }
 
 /// The tokens of a source, in order, with the token of its end last: each is the longest that begins at its place
-/// (JLS 3.2, 3.5).
+/// (JLS 3.2, 3.5), and names its bytes by their offsets from 0, and its line and column from 1, a column by characters.
 ///
-/// Where the bytes have no tokens, the answer is `BadChar` or `BadNumber` with the first place at which none begins, as
-/// the offset of a byte from 0. `OutOfMemory` may come for any bytes. There are fewer than 2^31 bytes, so that each
-/// offset fits.
+/// Where the bytes have no tokens, the answer is `BadUtf8`, `BadChar`, `BadNumber` or `Unclosed` with the offset of the
+/// byte at fault: the fault that is met first, where an unclosed text is met at the end of its line or of the file.
+/// `OutOfMemory` may come for any bytes. There are fewer than 2^31 bytes, so that each offset fits.
 pub fn tokens(alloc: Global, bytes: &[u8]) -> Result<Vec<Token>, TokenError>
     requires { length bytes.now < 2 ^ 31 }
     ensures ok { IfOk result (λ tokens. AreTokens bytes.now tokens.items) }
     ensures few { IfOk result (λ tokens. vec_len tokens ≤ length bytes.now + 1) }
     ensures err { IfErr result (HasFault bytes.now) }
 {
-    let mut tokens = Vec::new(alloc);
-    let mut at = white_len(bytes);
-    while at < bytes.len() {
-        let rest = &bytes[at..];
-        let text = &rest[..text_len(rest)];
-        let end = at + text.len();
-        let kind = kind_of(alloc, text, at as u32)?;
-        tokens.push(Token {
-            kind,
-            start: at as u32,
-            end: end as u32,
-        })?;
-        at = end + white_len(&bytes[end..]);
-    }
-    let end = bytes.len() as u32;
-    tokens.push(Token {
-        kind: TokenKind::End,
-        start: end,
-        end,
-    })?;
-    Ok(tokens)
+    let text = text_of(bytes);
+    let characters: Vec<char> = text.chars().collect(alloc)?;
+    read(alloc, &characters, text.len() == bytes.len())
 }

@@ -10,14 +10,14 @@ use Rattle.java_tokens.specs.declared.error.TokenError.{TokenError}
 use Rattle.java_tokens.specs.declared.error.TokenError.TheVariants as token
 use Rattle.java_tokens.specs.Tokens.{AreTokens}
 use Rattle.java_tokens.specs.Faults.{HasFault}
-use Rattle.java_tokens.proofs.OneReading.{one_list, no_list_with_fault}
-use Rattle.interpreter.specs.declared.program.Program.{Program}
 use Rattle.planb_run.specs.declared.ending.Stop.TheVariants as stop
-use Rattle.planb_run.specs.declared.ending.SourceRefusal.TheVariants.{Syntax}
-use Rattle.planb_run.specs.Accepted.{IsProgramOf, kinds_of, most_bytes}
-use Rattle.planb_run.specs.Headline.{IsUnaccepted}
-use Rattle.planb_run.specs.declared.parse.error.ParseError.{ParseError}
-use Rattle.planb_run.specs.declared.parse.error.ParseError.TheVariants as parse
+use Rattle.planb_run.specs.declared.ending.SourceRefusal.TheVariants.{Lexical}
+use Rattle.planb_run.specs.declared.ending.TokenKindError.{TokenKindError}
+use Rattle.planb_run.specs.declared.ending.TokenKindError.TheVariants as kind
+use Rattle.planb_run.specs.Accepted.{HasNoProgram, IsPlaceAmong, kinds_of, most_bytes}
+use Rattle.planb_run.specs.Headline.{lexical_error}
+use Rattle.planb_run.specs.declared.parse.error.ParseFault.{ParseFault}
+use Rattle.planb_run.specs.declared.parse.error.ParseFault.TheVariants as parse
 use Rattle.planb_run.specs.Causes.{read_stop, token_stop, parse_stop}
 use Rattle.planb_run.specs.Stages.{RefusesFile}
 
@@ -35,25 +35,29 @@ module _ (before now : FilesState) (file : List ℕ) where
   unread read.OutOfMemory fault there long = tt
 
   module _ (bytes : List ℕ) (there : before.lacks file ≡ false) (told : IfSome (before.bytes_of file) (λ b. bytes ≡ b)) (few : length bytes ≤ most_bytes) where
-    unaccepted : IsUnaccepted bytes → RefusesFile before now file (stop.Refused (Syntax 1 1))
-    unaccepted none = (record { there = there; source = bytes; told = told; few = few; unaccepted = none }, refl, refl)
-
-    -- bytes with a fault have no tokens
-    faulty : (error : TokenError) → error ≢ token.OutOfMemory → HasFault bytes error → IsUnaccepted bytes
-    faulty error known fault program accepted = no_list_with_fault bytes accepted.tokens error known accepted.read fault
+    lexical : (kind : TokenKindError) (at : ℕ) → HasFault bytes (lexical_error kind at) → RefusesFile before now file (stop.Refused (Lexical kind at))
+    lexical kind at fault = record { there = there; source = bytes; told = told; few = few; fault = fault }
 
     pub untokened : (error : TokenError) → HasFault bytes error → RefusesFile before now file (token_stop error)
-    untokened (token.BadChar at) fault = unaccepted (faulty (token.BadChar at) (λ e. cc) fault)
-    untokened (token.BadNumber at) fault = unaccepted (faulty (token.BadNumber at) (λ e. cc) fault)
+    untokened (token.BadUtf8 at) fault = lexical kind.Utf8 at fault
+    untokened (token.BadChar at) fault = lexical kind.Character at fault
+    untokened (token.BadNumber at) fault = lexical kind.Number at fault
+    untokened (token.Unclosed at) fault = lexical kind.Unclosed at fault
     untokened token.OutOfMemory fault = tt
 
     -- the tokens are of no program
-    malformed : (tokens : List Token) → AreTokens bytes tokens → ((program : Program) → IsProgramOf (kinds_of tokens) program → ⊥) → IsUnaccepted bytes
-    malformed tokens read none program accepted =
-        none program (subst (λ x. IsProgramOf (kinds_of x) program) (one_list bytes accepted.tokens tokens accepted.read read) accepted.program_is)
-
-    pub unparsed : (tokens : List Token) (error : ParseError) → AreTokens bytes tokens
-        → (error ≡ parse.Syntax → (program : Program) → IsProgramOf (kinds_of tokens) program → ⊥)
+    pub unparsed : (tokens : List Token) (error : ParseFault) → AreTokens bytes tokens
+        → ((line column : ℕ) → error ≡ parse.Syntax line column → HasNoProgram (kinds_of tokens))
+        → ((line column : ℕ) → error ≡ parse.Syntax line column → IsPlaceAmong tokens line column)
         → RefusesFile before now file (parse_stop error)
-    unparsed tokens parse.Syntax read none = unaccepted (malformed tokens read (none refl))
-    unparsed tokens parse.OutOfMemory read none = tt
+    unparsed tokens (parse.Syntax line column) read none place = record {
+      there = there;
+      source = bytes;
+      told = told;
+      few = few;
+      tokens = tokens;
+      read = read;
+      none = none line column refl;
+      place = place line column refl;
+    }
+    unparsed tokens parse.OutOfMemory read none place = tt

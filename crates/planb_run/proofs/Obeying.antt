@@ -1,17 +1,23 @@
 -- Each way in which the stages end obeys the headline.
-use Rattle.std.proofs.Common.{◌≡◌, ◌⊎◌, inl, inr, ℕ, ◌<◌, ◌≤◌, true, List, length, Option, Some, None, refl, sym, ◌∙◌, ap, subst, arith}
+use Rattle.std.proofs.Common.{◌≡◌, ◌≢◌, ◌⊎◌, inl, inr, ℕ, ◌<◌, ◌≤◌, true, List, length, Option, Some, None, refl, sym, ◌∙◌, ap, subst, arith}
 use Rattle.std.specs.Prelude.{IfSome}
 use Rattle.pb_io.specs.Sink.{SinkState}
 use Rattle.pb_io.specs.Files.{FilesState}
-use Rattle.java_tokens.proofs.OneReading.{one_list}
+use Rattle.java_tokens.specs.declared.error.TokenError.{TokenError}
+use Rattle.java_tokens.specs.declared.error.TokenError.TheVariants.{BadUtf8, BadChar, BadNumber, Unclosed, OutOfMemory}
+use Rattle.java_tokens.specs.Tokens.{AreTokens}
+use Rattle.java_tokens.specs.Faults.{HasFault}
+use Rattle.java_tokens.proofs.OneReading.{one_list, one_fault, no_list_with_fault}
 use Rattle.interpreter.specs.declared.program.Program.{Program}
 use Rattle.interpreter.specs.Run.{run}
 use Rattle.planb_run.specs.declared.ending.Stop.{Stop}
 use Rattle.planb_run.specs.declared.ending.Stop.TheVariants as stop
-use Rattle.planb_run.specs.declared.ending.SourceRefusal.TheVariants.{TooLong, Syntax}
+use Rattle.planb_run.specs.declared.ending.SourceRefusal.TheVariants.{TooLong, Lexical, Syntax}
+use Rattle.planb_run.specs.declared.ending.TokenKindError.{TokenKindError}
+use Rattle.planb_run.specs.declared.ending.TokenKindError.TheVariants as fault
 use Rattle.planb_run.specs.Command.{Command, command}
 use Rattle.planb_run.specs.Accepted.{Accepted, IsProgramOf, kinds_of, most_bytes}
-use Rattle.planb_run.specs.Headline.{Outside, IsRunStop, IsRefusal, IsEarly, IsStopOf, IsRun, HasProgram, StartsAtMost, PrintsNothing}
+use Rattle.planb_run.specs.Headline.{Outside, IsRunStop, IsRefusal, IsFormRefusal, lexical_error, IsEarly, IsStopOf, IsRun, HasProgram, StartsAtMost, PrintsNothing}
 use Rattle.planb_run.specs.Stages.{Obeys, RefusesFile, Executes}
 use Rattle.planb_run.proofs.Programs.{one_program_of}
 
@@ -34,6 +40,30 @@ one_program bytes p q a b =
     let tokens : a.tokens ≡ b.tokens = one_list bytes a.tokens b.tokens a.read b.read in
     one_program_of (kinds_of b.tokens) p q (subst (λ x. IsProgramOf (kinds_of x) p) tokens a.program_is) b.program_is
 
+-- a lexical fault is no want of memory, and two that are one error are of one kind at one byte
+lexical_known : (kind : TokenKindError) (at : ℕ) → lexical_error kind at ≢ OutOfMemory
+lexical_known fault.Utf8 at is = cc
+lexical_known fault.Character at is = cc
+lexical_known fault.Number at is = cc
+lexical_known fault.Unclosed at is = cc
+
+-- the stop of an error
+abbrev stop_of : TokenError → Stop
+stop_of (BadUtf8 at) = stop.Refused (Lexical fault.Utf8 at)
+stop_of (BadChar at) = stop.Refused (Lexical fault.Character at)
+stop_of (BadNumber at) = stop.Refused (Lexical fault.Number at)
+stop_of (Unclosed at) = stop.Refused (Lexical fault.Unclosed at)
+stop_of OutOfMemory = stop.OutOfMemory
+
+stop_of-lexical : (kind : TokenKindError) (at : ℕ) → stop_of (lexical_error kind at) ≡ stop.Refused (Lexical kind at)
+stop_of-lexical fault.Utf8 at = refl
+stop_of-lexical fault.Character at = refl
+stop_of-lexical fault.Number at = refl
+stop_of-lexical fault.Unclosed at = refl
+
+same_lexical : (one other : TokenKindError) (at place : ℕ) → lexical_error one at ≡ lexical_error other place → stop.Refused (Lexical one at) ≡ stop.Refused (Lexical other place)
+same_lexical one other at place same = sym (stop_of-lexical one at) ∙ ap stop_of same ∙ stop_of-lexical other place
+
 -- ---- the words are no command
 
 pub obeys-usage : (words : List (List ℕ)) (outside : Outside) → command words ≡ None → Obeys words outside outside stop.Usage 0
@@ -44,10 +74,11 @@ obeys-usage words outside none =
       source_is = record { names = λ asked is. cc; refused = λ _. nothing; read_fault = λ _. nothing };
       run_is = λ no. absurd no;
       early_end = record { write_fault = λ no. cc; out_of_memory = λ no. cc };
-      causes = record { read_fault = λ no. cc; write_fault = λ no. cc; too_long = λ no. cc; malformed = λ line column no. cc };
+      causes = record { read_fault = λ no. cc; write_fault = λ no. cc; too_long = λ no. cc; lexical = λ kind at no. cc; malformed = λ line column no. cc };
       complete = record {
         lacking = λ asked is. cc;
         too_long = λ asked source is. cc;
+        lexical = λ asked source kind at is. cc;
         malformed = λ asked source is. cc;
         accepted = λ asked source program is. cc;
       };
@@ -72,7 +103,8 @@ module _ (before now : FilesState) (file : List ℕ) where
   lacking-early (stop.StepsSpent budget) refused lacks = refused
   lacking-early stop.Usage refused lacks = refused
   lacking-early (stop.Refused TooLong) refused lacks = let there = refused.there in cc
-  lacking-early (stop.Refused (Syntax line column)) refused lacks = let there = refused.0.there in cc
+  lacking-early (stop.Refused (Lexical kind at)) refused lacks = let there = refused.there in cc
+  lacking-early (stop.Refused (Syntax line column)) refused lacks = let there = refused.there in cc
   lacking-early stop.OutOfMemory refused lacks = tt
   lacking-early stop.ReadFault refused lacks = tt
   lacking-early stop.WriteFault refused lacks = tt
@@ -82,24 +114,42 @@ module _ (before now : FilesState) (file : List ℕ) where
   long-refused (stop.StepsSpent budget) source refused told long = absurd refused
   long-refused stop.Usage source refused told long = absurd refused
   long-refused (stop.Refused TooLong) source refused told long = inl refl
+  long-refused (stop.Refused (Lexical kind at)) source refused told long =
+      let e = told_is (before.bytes_of file) refused.source source refused.told told in absurd (omega (arith, refused.few, ap length e))
   long-refused (stop.Refused (Syntax line column)) source refused told long =
-      let e = told_is (before.bytes_of file) refused.0.source source refused.0.told told in
-      absurd (omega (arith, refused.0.few, ap length e))
+      let e = told_is (before.bytes_of file) refused.source source refused.told told in absurd (omega (arith, refused.few, ap length e))
   long-refused stop.OutOfMemory source refused told long = inr tt
   long-refused stop.ReadFault source refused told long = inr tt
   long-refused stop.WriteFault source refused told long = inr tt
 
-  malformed-refused : (ending : Stop) (source : List ℕ) → RefusesFile before now file ending → before.bytes_of file ≡ Some source → length source ≤ most_bytes → (ending ≡ stop.Refused (Syntax 1 1)) ⊎ IsEarly ending
+  malformed-refused : (ending : Stop) (source : List ℕ) → RefusesFile before now file ending → before.bytes_of file ≡ Some source → length source ≤ most_bytes → IsFormRefusal ending ⊎ IsEarly ending
   malformed-refused stop.Done source refused told few = absurd refused
   malformed-refused (stop.StepsSpent budget) source refused told few = absurd refused
   malformed-refused stop.Usage source refused told few = absurd refused
   malformed-refused (stop.Refused TooLong) source refused told few =
       let long = long_is (before.bytes_of file) source refused.long told in absurd (omega arith)
-  malformed-refused (stop.Refused (Syntax line column)) source refused told few =
-      inl (ap (λ x. stop.Refused (Syntax x column)) refused.1 ∙ ap (λ x. stop.Refused (Syntax 1 x)) refused.2)
+  malformed-refused (stop.Refused (Lexical kind at)) source refused told few = inl tt
+  malformed-refused (stop.Refused (Syntax line column)) source refused told few = inl tt
   malformed-refused stop.OutOfMemory source refused told few = inr tt
   malformed-refused stop.ReadFault source refused told few = inr tt
   malformed-refused stop.WriteFault source refused told few = inr tt
+
+  lexical-refused : (ending : Stop) (source : List ℕ) (kind : TokenKindError) (at : ℕ) → RefusesFile before now file ending → before.bytes_of file ≡ Some source → length source ≤ most_bytes → HasFault source (lexical_error kind at) → (ending ≡ stop.Refused (Lexical kind at)) ⊎ IsEarly ending
+  lexical-refused stop.Done source kind at refused told few fault = absurd refused
+  lexical-refused (stop.StepsSpent budget) source kind at refused told few fault = absurd refused
+  lexical-refused stop.Usage source kind at refused told few fault = absurd refused
+  lexical-refused (stop.Refused TooLong) source kind at refused told few fault =
+      let long = long_is (before.bytes_of file) source refused.long told in absurd (omega arith)
+  lexical-refused (stop.Refused (Lexical other place)) source kind at refused told few fault =
+      let e = told_is (before.bytes_of file) refused.source source refused.told told in
+      let same = one_fault source (lexical_error other place) (lexical_error kind at) (lexical_known other place) (lexical_known kind at) (subst (λ x. HasFault x (lexical_error other place)) e refused.fault) fault in
+      inl (same_lexical other kind place at same)
+  lexical-refused (stop.Refused (Syntax line column)) source kind at refused told few fault =
+      let e = told_is (before.bytes_of file) refused.source source refused.told told in
+      absurd (no_list_with_fault source refused.tokens (lexical_error kind at) (lexical_known kind at) (subst (λ x. AreTokens x refused.tokens) e refused.read) fault)
+  lexical-refused stop.OutOfMemory source kind at refused told few fault = inr tt
+  lexical-refused stop.ReadFault source kind at refused told few fault = inr tt
+  lexical-refused stop.WriteFault source kind at refused told few fault = inr tt
 
   accepted-early : (ending : Stop) (source : List ℕ) (program : Program) → RefusesFile before now file ending → before.bytes_of file ≡ Some source → Accepted source program → IsEarly ending
   accepted-early stop.Done source program refused told accepted = refused
@@ -107,9 +157,13 @@ module _ (before now : FilesState) (file : List ℕ) where
   accepted-early stop.Usage source program refused told accepted = refused
   accepted-early (stop.Refused TooLong) source program refused told accepted =
       let long = long_is (before.bytes_of file) source refused.long told in absurd (omega (arith, accepted.few))
+  accepted-early (stop.Refused (Lexical kind at)) source program refused told accepted =
+      let e = told_is (before.bytes_of file) refused.source source refused.told told in
+      absurd (no_list_with_fault source accepted.tokens (lexical_error kind at) (lexical_known kind at) accepted.read (subst (λ x. HasFault x (lexical_error kind at)) e refused.fault))
   accepted-early (stop.Refused (Syntax line column)) source program refused told accepted =
-      let e = told_is (before.bytes_of file) refused.0.source source refused.0.told told in
-      refused.0.unaccepted program (subst (λ x. Accepted x program) (sym e) accepted)
+      let e = told_is (before.bytes_of file) refused.source source refused.told told in
+      let tokens = one_list source accepted.tokens refused.tokens accepted.read (subst (λ x. AreTokens x refused.tokens) e refused.read) in
+      absurd (refused.none program (subst (λ x. IsProgramOf (kinds_of x) program) tokens accepted.program_is))
   accepted-early stop.OutOfMemory source program refused told accepted = tt
   accepted-early stop.ReadFault source program refused told accepted = tt
   accepted-early stop.WriteFault source program refused told accepted = tt
@@ -170,7 +224,8 @@ module _ (words : List (List ℕ)) (before now : Outside) (asked : Command) (is 
           read_fault = λ fault. subst Refuses fault refused;
           write_fault = λ fault. absurd (subst Refuses fault refused);
           too_long = λ long. (asked, is, subst Refuses long refused);
-          malformed = λ line column e. let r = subst Refuses e refused in ((asked, is, r.0), r.1, r.2);
+          lexical = λ kind at e. (asked, is, subst Refuses e refused);
+          malformed = λ line column e. (asked, is, subst Refuses e refused);
         };
         complete = record {
           lacking = of_asked (λ a. before.files.lacks a.file ≡ true → IsEarly ending)
@@ -178,6 +233,9 @@ module _ (words : List (List ℕ)) (before now : Outside) (asked : Command) (is 
           too_long = λ other source other_is told long.
               long-refused before.files now.files asked.file ending source refused
               (subst (λ a. before.files.bytes_of a.file ≡ Some source) (sym (same_command words asked other is other_is)) told) long;
+          lexical = λ other source kind at other_is told few fault.
+              lexical-refused before.files now.files asked.file ending source kind at refused
+              (subst (λ a. before.files.bytes_of a.file ≡ Some source) (sym (same_command words asked other is other_is)) told) few fault;
           malformed = λ other source other_is told few unaccepted.
               malformed-refused before.files now.files asked.file ending source refused
               (subst (λ a. before.files.bytes_of a.file ≡ Some source) (sym (same_command words asked other is other_is)) told) few;
@@ -219,12 +277,16 @@ module _ (words : List (List ℕ)) (before now : Outside) (asked : Command) (is 
           read_fault = λ fault. absurd (subst Ends fault executes);
           write_fault = λ fault. (subst Ends fault executes).1;
           too_long = λ e. absurd (subst Ends e executes);
+          lexical = λ kind at e. absurd (subst Ends e executes);
           malformed = λ line column e. absurd (subst Ends e executes);
         };
         complete = record {
           lacking = of_asked (λ a. before.files.lacks a.file ≡ true → IsEarly ending) (λ lacks. let there = has.there in cc);
           too_long = λ other source other_is told long.
               absurd (omega (arith, has.accepted.few, ap length (told_of other source other_is told)));
+          lexical = λ other source kind at other_is told few fault.
+              absurd (no_list_with_fault source has.accepted.tokens (lexical_error kind at) (lexical_known kind at)
+              (subst (λ x. AreTokens x has.accepted.tokens) (told_of other source other_is told) has.accepted.read) fault);
           malformed = λ other source other_is told few unaccepted.
               absurd (unaccepted program (subst (λ x. Accepted x program) (told_of other source other_is told) has.accepted));
           accepted = λ other source q other_is told accepted.

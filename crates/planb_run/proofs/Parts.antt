@@ -1,5 +1,5 @@
 -- A text that is put part by part.
-use Rattle.std.proofs.Common.{◌≡◌, ℕ, suc, ◌+◌, ◌<◌, List, [], ◌∷◌, ◌++◌, length, take, drop, flat_map, get_or, Bor, Ok, Err, sym, ◌∙◌, ap, append_assoc, append-nil, add-one}
+use Rattle.std.proofs.Common.{◌≡◌, ℕ, suc, ◌+◌, ◌<◌, List, [], ◌∷◌, ◌++◌, length, take, drop, flat_map, get_or, Bor, Ok, Err, sym, ◌∙◌, ap, append_assoc, append-nil, add-one, codes}
 use Rattle.std.proofs.Math.Seq.{take-suc}
 use Rattle.std.proofs.lemmas.List.{take-append-drop}
 use Rattle.std.proofs.lemmas.Grind.{flat_map-append}
@@ -34,6 +34,10 @@ part-stopped a b c parts i d value error lt before one =
     rw (joined-split parts (suc i), joined-take parts i d lt)
     (Puts-stop a c (joined (take i parts) ++ (get_or parts i d).now) (joined (drop (suc i) parts)) error
     (Puts-append a b c (joined (take i parts)) (get_or parts i d).now value (Err error) before one))
+
+-- a fault: its kind, and the byte with a line feed
+pub fault-text-parts : (kind at : List ℕ) → ((kind ++ codes " at byte ") ++ at) ++ 10 ∷ [] ≡ kind ++ (codes " at byte " ++ (at ++ 10 ∷ []))
+fault-text-parts kind at = append_assoc (kind ++ codes " at byte ") at (10 ∷ []) ∙ append_assoc kind (codes " at byte ") (at ++ 10 ∷ [])
 
 -- a place: its line, a colon, its column, and a line feed
 pub place-text : (line column : List ℕ) → ((line ++ 58 ∷ []) ++ column) ++ 10 ∷ [] ≡ line ++ 58 ∷ (column ++ 10 ∷ [])

@@ -5,6 +5,11 @@ use Rattle.std.specs.Prelude.{◌≡◌, ◌⊎◌, ◌↔◌, ℕ, ◌+◌, ◌
 use Rattle.pb_io.specs.Faults.{Rose}
 use Rattle.pb_io.specs.Sink.{SinkState, with_bytes, AppendsPrefix, IsFlushed}
 use Rattle.pb_io.specs.Files.{FilesState, with_name}
+use Rattle.java_tokens.specs.declared.token.Token.{Token}
+use Rattle.java_tokens.specs.declared.error.TokenError.{TokenError}
+use Rattle.java_tokens.specs.declared.error.TokenError.TheVariants.{BadUtf8, BadChar, BadNumber, Unclosed}
+use Rattle.java_tokens.specs.Tokens.{AreTokens}
+use Rattle.java_tokens.specs.Faults.{HasFault}
 use Rattle.interpreter.specs.declared.program.Program.{Program}
 use Rattle.interpreter.specs.declared.outcome.Outcome.TheVariants.{Normal, Spent}
 use Rattle.interpreter.specs.World.{Answer}
@@ -12,11 +17,13 @@ use Rattle.interpreter.specs.Run.{run}
 use Rattle.planb_run.specs.declared.ending.Ending.{Ending}
 use Rattle.planb_run.specs.declared.ending.Stop.{Stop}
 use Rattle.planb_run.specs.declared.ending.Stop.TheVariants as stop
-use Rattle.planb_run.specs.declared.ending.SourceRefusal.TheVariants.{TooLong, Syntax}
+use Rattle.planb_run.specs.declared.ending.SourceRefusal.TheVariants.{TooLong, Lexical, Syntax}
+use Rattle.planb_run.specs.declared.ending.TokenKindError.{TokenKindError}
+use Rattle.planb_run.specs.declared.ending.TokenKindError.TheVariants as fault
 use Rattle.planb_run.specs.declared.ending.Reported.{Reported}
 use Rattle.planb_run.specs.declared.ending.Reported.TheVariants as reported
 use Rattle.planb_run.specs.Command.{Command, command}
-use Rattle.planb_run.specs.Accepted.{Accepted, most_bytes}
+use Rattle.planb_run.specs.Accepted.{kinds_of, HasNoProgram, IsPlaceAmong, Accepted, most_bytes}
 use Rattle.planb_run.specs.Report.{report, status}
 
 -- what the files and the output mean at one moment
@@ -45,6 +52,25 @@ IsRefusal stop.Usage = ⊥
 IsRefusal stop.OutOfMemory = ⊥
 IsRefusal stop.ReadFault = ⊥
 IsRefusal stop.WriteFault = ⊥
+
+-- the source was refused for its form
+abbrev pub IsFormRefusal : Stop → Type 0
+IsFormRefusal (stop.Refused TooLong) = ⊥
+IsFormRefusal (stop.Refused (Lexical kind at)) = Unit {0}
+IsFormRefusal (stop.Refused (Syntax line column)) = Unit {0}
+IsFormRefusal stop.Done = ⊥
+IsFormRefusal (stop.StepsSpent budget) = ⊥
+IsFormRefusal stop.Usage = ⊥
+IsFormRefusal stop.OutOfMemory = ⊥
+IsFormRefusal stop.ReadFault = ⊥
+IsFormRefusal stop.WriteFault = ⊥
+
+-- the error that a kind of fault at a byte is
+abbrev pub lexical_error : TokenKindError → ℕ → TokenError
+lexical_error fault.Utf8 at = BadUtf8 at
+lexical_error fault.Character at = BadChar at
+lexical_error fault.Number at = BadNumber at
+lexical_error fault.Unclosed at = Unclosed at
 
 -- memory ran out, or the outside failed: these may come in place of any other stop
 abbrev pub IsEarly : Stop → Type 0
@@ -95,13 +121,25 @@ pub record HasProgram (files : FilesState) (file : List ℕ) (program : Program)
 abbrev pub IsUnaccepted : List ℕ → Type 0
 IsUnaccepted source = (program : Program) → Accepted source program → ⊥
 
--- the file is there, and its bytes are no source that is accepted, though not for their number
-pub record HasNoProgram (files : FilesState) (file : List ℕ) : Type 0 where
+-- the file is there, and its bytes are no source that is accepted, though not for their number: this is their first
+-- lexical fault
+pub record HasLexicalFault (files : FilesState) (file : List ℕ) (kind : TokenKindError) (at : ℕ) : Type 0 where
   pub there : files.lacks file ≡ false
   pub source : List ℕ
   pub told : IfSome (files.bytes_of file) (λ bytes. source ≡ bytes)
   pub few : length source ≤ most_bytes
-  pub unaccepted : IsUnaccepted source
+  pub fault : HasFault source (lexical_error kind at)
+
+-- the same, but they have tokens, which are no source that breaks no rule, and one of which stands at this place
+pub record IsMalformed (files : FilesState) (file : List ℕ) (line column : ℕ) : Type 0 where
+  pub there : files.lacks file ≡ false
+  pub source : List ℕ
+  pub told : IfSome (files.bytes_of file) (λ bytes. source ≡ bytes)
+  pub few : length source ≤ most_bytes
+  pub tokens : List Token
+  pub read : AreTokens source tokens
+  pub none : HasNoProgram (kinds_of tokens)
+  pub place : IsPlaceAmong tokens line column
 
 -- the file is there, and has more bytes than a source may have
 pub record IsTooLong (files : FilesState) (file : List ℕ) : Type 0 where
@@ -161,13 +199,15 @@ module _ (words : List (List ℕ)) (before now : Outside) (ending : Stop) (steps
   abbrev pub OfTheFile : (List ℕ → Type 0) → Type 0
   OfTheFile P = (asked : Command) × (command words ≡ Some asked) × P asked.file
 
-  -- `causes`: each stop has its cause. A place in a refusal is 1:1 for now
+  -- `causes`: each stop has its cause
   pub record HasCauses : Type 0 where
     pub read_fault : ending ≡ stop.ReadFault → Rose before.files.faults now.files.faults
     pub write_fault : ending ≡ stop.WriteFault → Rose before.out.faults now.out.faults
     pub too_long : ending ≡ stop.Refused TooLong → OfTheFile (IsTooLong before.files)
+    pub lexical : (kind : TokenKindError) (at : ℕ) → ending ≡ stop.Refused (Lexical kind at)
+        → OfTheFile (λ file. HasLexicalFault before.files file kind at)
     pub malformed : (line column : ℕ) → ending ≡ stop.Refused (Syntax line column)
-        → OfTheFile (HasNoProgram before.files) × (line ≡ 1) × (column ≡ 1)
+        → OfTheFile (λ file. IsMalformed before.files file line column)
 
   -- `complete`: a stop other than an early one is determined by the file, as far as the files tell it
   pub record IsComplete : Type 0 where
@@ -176,9 +216,12 @@ module _ (words : List (List ℕ)) (before now : Outside) (ending : Stop) (steps
     pub too_long : (asked : Command) (source : List ℕ) → command words ≡ Some asked
         → before.files.bytes_of asked.file ≡ Some source → most_bytes < length source
         → (ending ≡ stop.Refused TooLong) ⊎ IsEarly ending
+    pub lexical : (asked : Command) (source : List ℕ) (kind : TokenKindError) (at : ℕ) → command words ≡ Some asked
+        → before.files.bytes_of asked.file ≡ Some source → length source ≤ most_bytes → HasFault source (lexical_error kind at)
+        → (ending ≡ stop.Refused (Lexical kind at)) ⊎ IsEarly ending
     pub malformed : (asked : Command) (source : List ℕ) → command words ≡ Some asked
         → before.files.bytes_of asked.file ≡ Some source → length source ≤ most_bytes → IsUnaccepted source
-        → (ending ≡ stop.Refused (Syntax 1 1)) ⊎ IsEarly ending
+        → IsFormRefusal ending ⊎ IsEarly ending
     pub accepted : (asked : Command) (source : List ℕ) (program : Program) → command words ≡ Some asked
         → before.files.bytes_of asked.file ≡ Some source → Accepted source program
         → IsStopOf (run program asked.steps) asked.steps ending ⊎ IsEarly ending

@@ -4,12 +4,21 @@ use Rattle.java_tokens.specs.declared.token.TokenKind.{TokenKind}
 use Rattle.interpreter.specs.declared.program.Stmt.{Stmt}
 use Rattle.planb_run.specs.declared.parse.error.ParseError.{ParseError}
 use Rattle.planb_run.specs.declared.parse.error.ParseError.TheVariants.{Syntax, OutOfMemory}
+use Rattle.planb_run.specs.declared.parse.error.ParseFault.{ParseFault}
+use Rattle.planb_run.specs.declared.parse.error.ParseFault.TheVariants as fault
+use Rattle.java_tokens.specs.declared.token.Token.{Token}
+use Rattle.planb_run.specs.Accepted.{IsPlaceAmong}
 use Rattle.planb_run.specs.Reading.{read, Resolved, resolved}
 
 -- why nothing is read
 abbrev pub Refuses : {A : Type 0} → Option (A × List TokenKind) → ParseError → Type 0
 Refuses outcome Syntax = outcome ≡ None
 Refuses outcome OutOfMemory = Unit {0}
+
+-- a refusal at one of the tokens
+abbrev pub IsFaultAmong : List Token → ParseFault → Type 0
+IsFaultAmong tokens (fault.Syntax line column) = IsPlaceAmong tokens line column
+IsFaultAmong tokens fault.OutOfMemory = ⊥
 
 -- the value that is read, with the tokens that are left
 abbrev pub Reads : {A : Type 0} → Option (A × List TokenKind) → Result A ParseError → List TokenKind → Type 0

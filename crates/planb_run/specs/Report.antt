@@ -5,11 +5,20 @@ use Rattle.planb_run.specs.declared.ending.Stop.{Stop}
 use Rattle.planb_run.specs.declared.ending.Stop.TheVariants as stop
 use Rattle.planb_run.specs.declared.ending.SourceRefusal.{SourceRefusal}
 use Rattle.planb_run.specs.declared.ending.SourceRefusal.TheVariants as refusal
+use Rattle.planb_run.specs.declared.ending.TokenKindError.{TokenKindError}
+use Rattle.planb_run.specs.declared.ending.TokenKindError.TheVariants as kind
 use Rattle.planb_run.specs.declared.ending.Reported.{Reported}
 use Rattle.planb_run.specs.declared.ending.Reported.TheVariants as reported
 
+abbrev pub fault_text : TokenKindError → List ℕ
+fault_text kind.Utf8 = codes "utf8"
+fault_text kind.Character = codes "character"
+fault_text kind.Number = codes "number"
+fault_text kind.Unclosed = codes "unclosed"
+
 abbrev pub refusal_text : SourceRefusal → List ℕ
 refusal_text refusal.TooLong = codes "too long"
+refusal_text (refusal.Lexical fault at) = fault_text fault ++ codes " at byte " ++ decimal at
 refusal_text (refusal.Syntax line column) = codes "syntax at " ++ decimal line ++ codes ":" ++ decimal column
 
 -- the whole report: one line on the stop, and none where the program ended normally

@@ -6,8 +6,8 @@ use Rattle.pb_io.specs.Files.{FilesState}
 use Rattle.interpreter.specs.declared.program.Program.{Program}
 use Rattle.planb_run.specs.declared.ending.Stop.{Stop}
 use Rattle.planb_run.specs.declared.ending.Stop.TheVariants as stop
-use Rattle.planb_run.specs.declared.ending.SourceRefusal.TheVariants.{TooLong, Syntax}
-use Rattle.planb_run.specs.Headline.{Outside, IsRun, IsPartOfRun, HasNoProgram, IsTooLong, RefusesWords, ReadsSource, RunsAsReference, EndsEarly, HasCauses, IsComplete}
+use Rattle.planb_run.specs.declared.ending.SourceRefusal.TheVariants.{TooLong, Lexical, Syntax}
+use Rattle.planb_run.specs.Headline.{Outside, IsRun, IsPartOfRun, HasLexicalFault, IsMalformed, IsTooLong, RefusesWords, ReadsSource, RunsAsReference, EndsEarly, HasCauses, IsComplete}
 
 -- the clauses of the headline but for the report
 pub record Obeys (words : List (List ℕ)) (before now : Outside) (ending : Stop) (steps : ℕ) : Type 0 where
@@ -22,7 +22,8 @@ pub record Obeys (words : List (List ℕ)) (before now : Outside) (ending : Stop
 abbrev pub RefusesFile : FilesState → FilesState → List ℕ → Stop → Type 0
 RefusesFile before now file stop.ReadFault = Rose before.faults now.faults
 RefusesFile before now file (stop.Refused TooLong) = IsTooLong before file
-RefusesFile before now file (stop.Refused (Syntax line column)) = HasNoProgram before file × (line ≡ 1) × (column ≡ 1)
+RefusesFile before now file (stop.Refused (Lexical kind at)) = HasLexicalFault before file kind at
+RefusesFile before now file (stop.Refused (Syntax line column)) = IsMalformed before file line column
 RefusesFile before now file stop.OutOfMemory = Unit {0}
 RefusesFile before now file _ = ⊥
 

@@ -31,9 +31,24 @@ pub enum Stop {
 pub enum SourceRefusal {
     /// It has more than 1,048,576 bytes.
     TooLong,
-    /// It isn't of the form of the language. Line and column count from 1, the column in characters; for now the
-    /// place is always 1:1.
+    /// It has no tokens, for a fault of this kind, which is at the byte with this offset, from 0.
+    Lexical(TokenKindError, u32),
+    /// Its tokens aren't of the form of the language. The place is that of the token at which the parser stopped, or of
+    /// the last one; line and column count from 1, the column in characters.
     Syntax { line: u32, column: u32 },
+}
+
+/// The kinds of fault by which bytes have no tokens.
+#[derive(Clone, Copy, Debug, PartialEq, Eq)]
+pub enum TokenKindError {
+    /// No well-formed character of UTF-8 begins at the byte.
+    Utf8,
+    /// A character there begins no token, or no escape.
+    Character,
+    /// A number there isn't of the language.
+    Number,
+    /// A string or a comment there isn't closed.
+    Unclosed,
 }
 
 /// How the report went.

@@ -15,7 +15,7 @@ mod parse;
 mod report;
 mod top;
 
-pub use ending::{Ending, Reported, SourceRefusal, Stop};
+pub use ending::{Ending, Reported, SourceRefusal, Stop, TokenKindError};
 pub use top::planb;
 
 #[cfg(test)]

@@ -3,8 +3,8 @@ ghost use Rattle.interpreter.specs.WellTyped.{IsWellTyped};
 ghost use Rattle.planb_run.specs.Headline.{StartsAtMost, HasProgram};
 ghost use Rattle.planb_run.specs.Stages.{RefusesFile};
 
-use crate::parse::{ParseError, parse};
-use crate::{SourceRefusal, Stop};
+use crate::parse::{ParseFault, parse};
+use crate::{SourceRefusal, Stop, TokenKindError};
 use interpreter::Program;
 use java_tokens::{TokenError, tokens};
 use pb_io::{Files, ReadError, read_file};
@@ -12,9 +12,6 @@ use std::alloc::Global;
 
 // How many bytes a source may have.
 const MOST_BYTES: usize = 1_048_576;
-
-// For now every refusal of a source's form is at its beginning.
-const MALFORMED: SourceRefusal = SourceRefusal::Syntax { line: 1, column: 1 };
 
 impl From<ReadError> for Stop {
     ghost use Rattle.std.specs.Prelude.{◌≡◌};
@@ -39,22 +36,34 @@ impl From<TokenError> for Stop {
 
     fn from(error: TokenError) -> Self {
         match error {
-            TokenError::BadChar(_) | TokenError::BadNumber(_) => Stop::Refused(MALFORMED),
+            TokenError::BadUtf8(at) => lexical(TokenKindError::Utf8, at),
+            TokenError::BadChar(at) => lexical(TokenKindError::Character, at),
+            TokenError::BadNumber(at) => lexical(TokenKindError::Number, at),
+            TokenError::Unclosed(at) => lexical(TokenKindError::Unclosed, at),
             TokenError::OutOfMemory => Stop::OutOfMemory,
         }
     }
 }
 
-impl From<ParseError> for Stop {
+// The stop of a source with a fault of this kind at this byte.
+fn lexical(kind: TokenKindError, at: u32) -> Stop
+    ensures { result ≡ Stop.Refused (SourceRefusal.Lexical kind at) }
+{
+    Stop::Refused(SourceRefusal::Lexical(kind, at))
+}
+
+impl From<ParseFault> for Stop {
     ghost use Rattle.std.specs.Prelude.{◌≡◌};
     ghost use Rattle.planb_run.specs.Causes.{parse_stop};
 
     ghost from_gives = { λ error stop. stop ≡ parse_stop error };
 
-    fn from(error: ParseError) -> Self {
+    fn from(error: ParseFault) -> Self {
         match error {
-            ParseError::Syntax => Stop::Refused(MALFORMED),
-            ParseError::OutOfMemory => Stop::OutOfMemory,
+            ParseFault::Syntax { line, column } => {
+                Stop::Refused(SourceRefusal::Syntax { line, column })
+            }
+            ParseFault::OutOfMemory => Stop::OutOfMemory,
         }
     }
 }

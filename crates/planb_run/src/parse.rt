@@ -10,35 +10,57 @@ mod locals;
 mod statement;
 mod sum;
 
-ghost use Rattle.std.specs.Prelude.{◌≡◌, ◌<◌, ◌^◌, length, IfOk, IfErr, IsErrOf};
+ghost use Rattle.std.specs.Prelude.{◌≡◌, ℕ, ◌<◌, ◌^◌, length, IfOk, IfErr, IsErrOf};
 ghost use Rattle.interpreter.specs.declared.program.Program.{Program};
 ghost use Rattle.interpreter.specs.WellTyped.{IsWellTyped};
-ghost use Rattle.planb_run.specs.Accepted.{kinds_of, IsProgramOf};
+ghost use Rattle.planb_run.specs.Accepted.{kinds_of, IsProgramOf, HasNoProgram, IsPlaceAmong};
 ghost use Rattle.planb_run.specs.Reading as spec;
-ghost use Rattle.planb_run.specs.Reads.{Reads, Refuses};
+ghost use Rattle.planb_run.specs.Reads.{Reads, Refuses, IsFaultAmong};
 
 use crate::parse::cursor::Cursor;
 use crate::parse::locals::Locals;
 use crate::parse::statement::read_statement;
-pub(crate) use error::ParseError;
+use error::ParseError;
+pub(crate) use error::ParseFault;
 use interpreter::Program;
 use java_tokens::{Keyword, Name, Operator, Token};
 use sqlite_items::Items;
 use std::alloc::Global;
 
-/// The resolved program of the tokens of a source. They are refused as `Syntax` exactly where they aren't a source or
-/// it breaks a rule, so that they have no program; `OutOfMemory` may come for any tokens. There are few enough tokens
-/// that a `u32` numbers the locals.
+/// The resolved program of the tokens of a source, of which there is one at least. They are refused as `Syntax` exactly
+/// where they aren't a source or it breaks a rule, so that they have no program, at the token at which the parser
+/// stopped, or at the last one; `OutOfMemory` may come for any tokens. There are few enough tokens that a `u32` numbers
+/// the locals.
 #[tactic(auto, using(crate::proofs::Sound::reads_source, crate::proofs::Typed::well_typed))]
-pub(crate) fn parse(alloc: Global, tokens: &[Token]) -> Result<Program, ParseError>
-    requires { length tokens.now < 2 ^ 31 }
+pub(crate) fn parse(alloc: Global, tokens: &[Token]) -> Result<Program, ParseFault>
+    requires some { 0 < length tokens.now }
+    requires few { length tokens.now < 2 ^ 31 }
     ensures ok { IfOk result (IsProgramOf (kinds_of tokens.now)) }
     ensures well_typed { IfOk result IsWellTyped }
-    ensures syntax { IsErrOf result ParseError.Syntax
-        → (program : Program) → IsProgramOf (kinds_of tokens.now) program → ⊥ }
+    ensures syntax { (line column : ℕ) → IsErrOf result (ParseFault.Syntax line column)
+        → HasNoProgram (kinds_of tokens.now) }
+    ensures place { (line column : ℕ) → IsErrOf result (ParseFault.Syntax line column)
+        → IsPlaceAmong tokens.now line column }
 {
     let mut cursor = Cursor::new(tokens);
-    read_source(alloc, &mut cursor)
+    match read_source(alloc, &mut cursor) {
+        Ok(program) => Ok(program),
+        Err(ParseError::Syntax) => Err(fault_at(tokens, cursor.len())),
+        Err(ParseError::OutOfMemory) => Err(ParseFault::OutOfMemory),
+    }
+}
+
+/// The fault at the token with which the last ones of this number begin, or at the last token.
+fn fault_at(tokens: &[Token], left: usize) -> ParseFault
+    requires { 0 < length tokens.now }
+    ensures { IsFaultAmong tokens.now result }
+{
+    let last = tokens.len() - 1;
+    let stopped = &tokens[tokens.len().saturating_sub(left).min(last)];
+    ParseFault::Syntax {
+        line: stopped.line,
+        column: stopped.column,
+    }
 }
 
 /// Reads a whole source, and gives its program.

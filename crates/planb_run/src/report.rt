@@ -1,8 +1,8 @@
 ghost use Rattle.std.specs.Prelude.{◌≡◌, flat_map};
 ghost use Rattle.pb_io.specs.Sink.{Puts};
-ghost use Rattle.planb_run.specs.Report.{report};
+ghost use Rattle.planb_run.specs.Report.{report, fault_text};
 
-use crate::{SourceRefusal, Stop};
+use crate::{SourceRefusal, Stop, TokenKindError};
 use itoa::Buffer;
 use pb_io::{PutError, Sink, put_all};
 
@@ -33,6 +33,14 @@ fn write_refusal<O: Sink>(sink: &mut O, why: SourceRefusal) -> Result<(), PutErr
 {
     match why {
         SourceRefusal::TooLong => put_all(sink, b"refused too long\n"),
+        SourceRefusal::Lexical(kind, at) => {
+            let mut digits = Buffer::new();
+            let at = digits.format(at).as_bytes();
+            put_parts(
+                sink,
+                &[b"refused ", fault_text(kind), b" at byte ", at, b"\n"],
+            )
+        }
         SourceRefusal::Syntax { line, column } => {
             let mut lines = Buffer::new();
             let mut columns = Buffer::new();
@@ -40,6 +48,18 @@ fn write_refusal<O: Sink>(sink: &mut O, why: SourceRefusal) -> Result<(), PutErr
             let column = columns.format(column).as_bytes();
             put_parts(sink, &[b"refused syntax at ", line, b":", column, b"\n"])
         }
+    }
+}
+
+// The word for a kind of fault.
+fn fault_text(kind: TokenKindError) -> &'static [u8]
+    ensures { result.now ≡ fault_text kind }
+{
+    match kind {
+        TokenKindError::Utf8 => b"utf8",
+        TokenKindError::Character => b"character",
+        TokenKindError::Number => b"number",
+        TokenKindError::Unclosed => b"unclosed",
     }
 }
 

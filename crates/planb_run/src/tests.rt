@@ -80,8 +80,6 @@ struct Row<'a> {
     report: &'a str,
 }
 
-const NO_PLACE: SourceRefusal = SourceRefusal::Syntax { line: 1, column: 1 };
-
 const USAGE: &str =
     "usage: planb [--steps N] [--conflicts N] [--proof] (FILE [ARG..] | --make N)\n";
 
@@ -128,14 +126,9 @@ fn stopped<'a>(
     }
 }
 
-fn refused<'a>(body: &'a str) -> Row<'a> {
-    stopped(
-        &["planb", "F"],
-        body,
-        Stop::Refused(NO_PLACE),
-        3,
-        "refused syntax at 1:1\n",
-    )
+fn refused<'a>(body: &'a str, column: u32, report: &'a str) -> Row<'a> {
+    let why = SourceRefusal::Syntax { line: 1, column };
+    stopped(&["planb", "F"], body, Stop::Refused(why), 3, report)
 }
 
 fn usage<'a>(words: &'a [&'a str]) -> Row<'a> {
@@ -156,8 +149,10 @@ fn runs_programs(rt: HostRuntime) -> Result<(), Fail> {
         spent(&["planb", "--steps", "5", "F"], local, 5, "steps spent 5\n"),
         done(&["planb", "F"], wrapped, "-2147483648\n", 4),
         done(&["planb", "F"], "", "", 0),
-        refused("int x = 1; int x = 2;"),
-        refused("int x = x;"),
+        refused("int x = 1; int x = 2;", 77, "refused syntax at 1:77\n"),
+        refused("int x = y;", 63, "refused syntax at 1:63\n"),
+        refused("int x = 2147483648;", 63, "refused syntax at 1:63\n"),
+        refused("System.out.print(1);", 66, "refused syntax at 1:66\n"),
         stopped(&["planb", "G"], sum, Stop::ReadFault, 7, "read fault\n"),
         usage(&[]),
         usage(&["planb"]),
@@ -192,11 +187,22 @@ fn refuses_files(rt: HostRuntime) -> Result<(), Fail> {
     let alloc = rt.alloc();
     let longest = vec![in alloc; b' '; 1_048_576]?;
     let too_long = vec![in alloc; b' '; 1_048_577]?;
-    let rows: [(&[u8], &[u8]); 4] = [
+    let rows: [(&[u8], &[u8]); 12] = [
         (b"", b"refused syntax at 1:1\n"),
-        (b"class Main {", b"refused syntax at 1:1\n"),
-        (&longest, b"refused syntax at 1:1\n"),
+        (b"class Main {", b"refused syntax at 1:13\n"),
+        (
+            b"class Main {\r\n  // no body\r\n",
+            b"refused syntax at 3:1\n",
+        ),
+        ("class Mé [".as_bytes(), b"refused syntax at 1:10\n"),
+        (&longest, b"refused syntax at 1:1048577\n"),
         (&too_long, b"refused too long\n"),
+        (b"\xff", b"refused utf8 at byte 0\n"),
+        (b"class @", b"refused character at byte 6\n"),
+        (b"class 01", b"refused number at byte 6\n"),
+        (b"class \"a", b"refused unclosed at byte 6\n"),
+        (b"class /* a", b"refused unclosed at byte 6\n"),
+        (b"1 \xff @", b"refused utf8 at byte 2\n"),
     ];
     for (source, report) in rows {
         let call = run_planb(alloc, &["planb", "F"], source, 4096, Failing::default())?;

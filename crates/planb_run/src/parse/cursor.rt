@@ -34,8 +34,15 @@ impl<'a> Cursor<'a> {
         Cursor { rest: tokens }
     }
 
+    /// How many tokens there are from here on.
+    pub(super) fn len(&self) -> usize
+        ensures { result ≡ length self.now }
+    {
+        self.rest.len()
+    }
+
     /// The next token.
-    fn peek(&self) -> Option<&'a TokenKind>
+    pub(super) fn peek(&self) -> Option<&'a TokenKind>
         ensures { option_copied result ≡ option_map (λ read. read.0) (spec.token self.now) }
     {
         match self.rest {
@@ -45,7 +52,7 @@ impl<'a> Cursor<'a> {
     }
 
     /// Leaves the next token behind.
-    fn skip(&mut self)
+    pub(super) fn skip(&mut self)
         ensures { self.new ≡ spec.behind self.old }
     {
         if let [_, rest @ ..] = self.rest {
@@ -89,15 +96,6 @@ impl<'a> Cursor<'a> {
         };
         self.skip();
         Some(sign)
-    }
-
-    /// Takes the next token, whatever it is.
-    pub(super) fn take(&mut self) -> Option<&'a TokenKind>
-        ensures { option_map (λ kind. (kind.now, self.new)) result ≡ spec.token self.old }
-    {
-        let kind = self.peek()?;
-        self.skip();
-        Some(kind)
     }
 
     /// Takes the next token, which must be this word.

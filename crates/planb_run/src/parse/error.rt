@@ -1,10 +1,10 @@
 use std::alloc::AllocError;
 use thiserror::Error;
 
-/// Why tokens were refused.
+/// Why a part of the parser read nothing.
 #[derive(Clone, Copy, Debug, PartialEq, Eq, Error)]
 pub(crate) enum ParseError {
-    /// They aren't of the form of the language, or break one of its rules.
+    /// The tokens aren't of the form of the language, or break one of its rules.
     #[error("not of the form of the language")]
     Syntax,
     /// Memory ran out. It may come for any tokens.
@@ -21,4 +21,16 @@ impl From<AllocError> for ParseError {
     fn from(_: AllocError) -> Self {
         ParseError::OutOfMemory
     }
+}
+
+/// Why tokens have no program.
+#[derive(Clone, Copy, Debug, PartialEq, Eq, Error)]
+pub(crate) enum ParseFault {
+    /// They aren't of the form of the language, or break one of its rules. The place is that of the token at which the
+    /// parser stopped, or of the last one.
+    #[error("not of the form of the language at {line}:{column}")]
+    Syntax { line: u32, column: u32 },
+    /// Memory ran out. It may come for any tokens.
+    #[error("out of memory")]
+    OutOfMemory,
 }

@@ -1,5 +1,7 @@
 ghost use Rattle.std.specs.Prelude.{◌≡◌, IfOk};
 ghost use Rattle.interpreter.specs.declared.program.Expr.TheVariants as expr;
+ghost use Rattle.std.specs.Option.{option_and_then};
+ghost use Rattle.planb_run.specs.Resolution.{operand_expr};
 ghost use Rattle.planb_run.specs.Reading as spec;
 ghost use Rattle.planb_run.specs.Reads.{Reads};
 
@@ -41,16 +43,32 @@ pub(super) fn read_sum(
 fn read_operand(tokens: &mut Cursor, locals: &Locals) -> Result<Expr, ParseError>
     ensures { Reads (spec.operand locals.now tokens.old) result tokens.new }
 {
-    match tokens.take() {
-        Some(TokenKind::Number(number)) => match i32::try_from(*number) {
-            Ok(value) => Ok(Expr::Int(value)),
-            Err(_) => Err(ParseError::Syntax),
-        },
-        Some(TokenKind::Ident(name)) => match locals.number_of(name) {
-            Some(number) => Ok(Expr::Local(number)),
+    match tokens.peek() {
+        Some(kind) => match operand_of(kind, locals) {
+            Some(operand) => {
+                tokens.skip();
+                Ok(operand)
+            }
             None => Err(ParseError::Syntax),
         },
-        _ => Err(ParseError::Syntax),
+        None => Err(ParseError::Syntax),
+    }
+}
+
+/// The operand that a token is, if it is a number that an `int` holds, or the name of a local that is declared.
+fn operand_of(kind: &TokenKind, locals: &Locals) -> Option<Expr>
+    ensures { result ≡ option_and_then (operand_expr locals.now) (spec.operand_of kind.now) }
+{
+    match kind {
+        TokenKind::Number(number) => match i32::try_from(*number) {
+            Ok(value) => Some(Expr::Int(value)),
+            Err(_) => None,
+        },
+        TokenKind::Ident(name) => match locals.number_of(name) {
+            Some(number) => Some(Expr::Local(number)),
+            None => None,
+        },
+        _ => None,
     }
 }
 

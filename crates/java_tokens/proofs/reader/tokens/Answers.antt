@@ -1,46 +1,33 @@
-use Rattle.std.proofs.Common.{◌++◌, drop, is_ok, sym, refl, ap, subst, arith}
-use Rattle.std.proofs.ResultArms.{chosen}
-use Rattle.std.proofs.lemmas.List.{length-drop}
-use Rattle.std.proofs.lemmas.Result.{err_from_is_err_and}
-use Rattle.java_tokens.specs.Reading.{IsCandidate, IsFaultOf}
-use Rattle.java_tokens.proofs.Cuts.{text_len-candidate}
-use Rattle.java_tokens.proofs.Next.{length-AreNext}
-use Rattle.java_tokens.proofs.Steps.{begun, went_on, cut_front, read_fault}
+use Rattle.std.proofs.Common.{◌≡◌, ◌<◌, ◌≤◌, ◌==◌, List, ℕ, [], drop, length, chars, true, false, ◌∙◌, arith, rules, length-drop}
+use Rattle.std.proofs.lemmas.Bool.Decides.{nat_tests}
+use Rattle.std.proofs.lemmas.List.{drop_all}
+use Rattle.std.proofs.lemmas.Result.{IfOk-weaker, IfErr-weaker}
+use Rattle.std.proofs.lemmas.Str.{chars_from_encodes}
+use Rattle.java_tokens.proofs.Stopping.{has_text, are_tokens, has_fault}
 use Rattle.java_tokens.proofs.reader.tokens.Goals as goal
 
--- the white space in front is skipped
-pub loop-at-init : goal.loop-at-init
-loop-at-init c = begun c.args.bytes.now _ _ c.new-tokens.ensures.items c.white_len-at.ensures.count
+-- whether bytes are left behind a front of this length
+none_left : (bytes : List ℕ) (n : ℕ) → (n == length bytes) ≡ true → drop n bytes ≡ []
+none_left bytes n whole = let same : n ≡ length bytes = grind (arith, nat_tests) in drop_all n bytes (omega arith)
 
--- what the reader cuts off may be the text of a token
-pub kind_of-requires : goal.kind_of-requires
-kind_of-requires c =
+some_left : (bytes : List ℕ) (n : ℕ) → n ≤ length bytes → (n == length bytes) ≡ false → 0 < length (drop n bytes)
+some_left bytes n within part =
+    let below : n < length bytes = grind (arith, nat_tests) in omega (arith, length-drop n bytes)
+
+pub returns-clause-ok : goal.returns-clause-ok
+returns-clause-ok c =
     let bytes = c.args.bytes.now in
-    let at = c.loop-at.at in
-    subst IsCandidate (sym (cut_front bytes at c.text_len.result c.text_len.ensures.value))
-    (text_len-candidate (drop at bytes) (omega (arith, length-drop at bytes)) c.loop-at.invariant.not_white)
+    let text = c.text_of-text.result.now in
+    let are : c.in_ok-characters.characters.items ≡ chars text = search (rules, chars_from_encodes) in
+    let read = has_text bytes text c.deref.result.now c.text_of-text.ensures.front c.text_of-text.ensures.stuck c.text_of-text.utf8 (c.deref.ensures.value ∙ are) in
+    IfOk-weaker c.read.result _ _ (λ tokens. are_tokens bytes c.deref.result.now (drop (length text) bytes) (length text == length bytes) tokens.items read (none_left bytes (length text))) c.read.ensures.ok
 
--- it is the text of none, for the reason that is given
-pub returns-in_err-kind-clause-err : goal.returns-in_err-kind-clause-err
-returns-in_err-kind-clause-err c =
-    let p = err_from_is_err_and c.from_residual.result c.from_residual.ensures.1 in
+pub returns-clause-err : goal.returns-clause-err
+returns-clause-err c =
     let bytes = c.args.bytes.now in
-    let at = c.loop-at.at in
-    let error = c.in_err-kind.field-0.0 in
-    let none = subst (λ text. IsFaultOf text at error) (cut_front bytes at c.text_len.result c.text_len.ensures.value) c.in_err-kind.ensures.err in
-    rw (p.1, p.2) (read_fault bytes c.loop-at.tokens.items at error c.loop-at-test.true c.loop-at.invariant none)
-
--- the token is the next one, and the white space behind it is skipped
-pub loop-at-preserved : goal.loop-at-preserved
-loop-at-preserved c =
-    let bytes = c.args.bytes.now in
-    let at = c.loop-at.at in
-    let pushed = chosen _ _ _ _ c.push.ensures.items (ap is_ok c.in_ok-push.was) in
-    went_on bytes c.loop-at.tokens.items _ at c.white_len.result _ _ c.loop-at-test.true c.loop-at.invariant pushed (cut_front bytes at c.text_len.result c.text_len.ensures.value) refl refl c.in_ok-kind.ensures.ok c.white_len.ensures.count
-
--- each token but the last takes a byte at least
-pub returns-clause-few : goal.returns-clause-few
-returns-clause-few c =
-    let reached = c.loop-at.invariant.reached in
-    let front = length-AreNext 0 c.args.bytes.now c.loop-at.tokens.items (reached.gap ++ drop c.loop-at.at c.args.bytes.now) reached.next in
-    omega (arith, front, c.in_ok-push-2.ensures.len, c.loop-at.tokens.ok.0)
+    let text = c.text_of-text.result.now in
+    let are : c.in_ok-characters.characters.items ≡ chars text = search (rules, chars_from_encodes) in
+    let read = has_text bytes text c.deref.result.now c.text_of-text.ensures.front c.text_of-text.ensures.stuck c.text_of-text.utf8 (c.deref.ensures.value ∙ are) in
+    IfErr-weaker c.read.result _ _
+    (has_fault bytes c.deref.result.now (drop (length text) bytes) (length text == length bytes) read (none_left bytes (length text)) (some_left bytes (length text) c.text_of-text.ensures.within))
+    c.read.ensures.err

@@ -18,4 +18,5 @@ returns-in_err-program-clause-err g c =
     let read = rw c.deref.ensures.value at c.in_ok-tokens.ensures.ok in
     let p = err_from_is_err_and c.from_residual-in_err-program.result c.from_residual-in_err-program.ensures.1 in
     rw (p.1, p.2) (unparsed (g.F.Files.state c.args.files.now) (g.F.Files.state c.read_file.new.files) c.args.file.now c.in_ok-bytes.bytes.items told.there told.whole (omega (arith, told.within)) c.in_ok-tokens.tokens.items _ read
-    (λ e. rw c.deref-2.ensures.value at (c.in_err-program.ensures.syntax (ap Err e))))
+    (λ line column e. rw c.deref-2.ensures.value at (c.in_err-program.ensures.syntax line column (ap Err e)))
+    (λ line column e. rw c.deref-2.ensures.value at (c.in_err-program.ensures.place line column (ap Err e))))

@@ -1,9 +1,14 @@
 use Rattle.std.proofs.Common.{◌∙◌}
-use Rattle.planb_run.proofs.Parts.{place-text}
+use Rattle.planb_run.proofs.Parts.{fault-text-parts, place-text}
 use Rattle.planb_run.proofs.report.write_refusal.Goals as goal
 
 pub returns-in-TooLong : goal.returns-in-TooLong
 returns-in-TooLong g c = rw c.in-TooLong.is c.put_all.ensures
+
+pub returns-in-Lexical : goal.returns-in-Lexical
+returns-in-Lexical g c =
+    let at = c.as_bytes-at.ensures.value ∙ c.format.ensures.text in
+    rw (c.in-Lexical.is, ← c.fault_text.ensures, ← at, fault-text-parts c.fault_text.result.now c.as_bytes-at.result.now) c.put_parts.ensures
 
 pub returns-in-Syntax : goal.returns-in-Syntax
 returns-in-Syntax g c =

@@ -1,0 +1,208 @@
+//! Members of a class (JLS 8.1.6).
+//!
+//! ```text
+//! Member = Field | Method | Maker | ";"
+//! Field  = Mods Type Ident [ "=" Expr ] ";"
+//! Method = Mods ( "void" | Type ) Ident "(" [ Params ] ")" [ Throws ] Block
+//! Maker  = Mods Ident "(" [ Params ] ")" [ Throws ] Block
+//! ```
+
+ghost use Rattle.std.specs.Prelude.{◌≡◌, ◌≤◌, ◌<◌};
+ghost use Rattle.java_reading.specs.ReadClass as spec;
+ghost use Rattle.java_reading.specs.ReadStmt as spec_statement;
+ghost use Rattle.java_parse.specs.Reads.{Reads};
+
+use crate::header::{modifiers, params, throws};
+use crate::refusal::Refusal;
+use crate::simple::initial;
+use crate::statements::body;
+use crate::tokens::Tokens;
+use java_syntax::{FieldTree, Ident, MakerTree, Member, MethodTree, Mods, TypeTree};
+use java_tokens::{Keyword, Operator};
+use std::alloc::Global;
+
+/// What stands behind the name of a constructor (JLS 8.8).
+#[tactic(auto, unfolding(java_reading::specs::ReadClass::maker))]
+fn maker(
+    alloc: Global,
+    tokens: &mut Tokens<'_>,
+    most: u32,
+    mods: Mods,
+    name: Ident,
+) -> Result<MakerTree, Refusal>
+    requires { most < 200 }
+    ensures { Reads (spec.maker (spec_statement.value most) (spec_statement.body most) mods name tokens.old) result tokens.new }
+{
+    let params = params(alloc, tokens)?;
+    let throws = throws(alloc, tokens)?;
+    tokens.expect(Operator::LeftBrace)?;
+    let body = body(alloc, tokens, most)?;
+    Ok(MakerTree {
+        mods,
+        name,
+        params,
+        throws,
+        body,
+    })
+}
+
+/// The method with this result and the parts of the other tree.
+fn with_answer(answer: Option<TypeTree>, tree: MakerTree) -> MethodTree
+    ensures { result ≡ spec.method_of answer tree }
+{
+    let MakerTree {
+        mods,
+        name,
+        params,
+        throws,
+        body,
+    } = tree;
+    MethodTree {
+        mods,
+        answer,
+        name,
+        params,
+        throws,
+        body,
+    }
+}
+
+/// What stands behind the name of a method (JLS 8.4).
+#[tactic(auto, unfolding(java_reading::specs::ReadClass::method))]
+fn method(
+    alloc: Global,
+    tokens: &mut Tokens<'_>,
+    most: u32,
+    mods: Mods,
+    answer: Option<TypeTree>,
+    name: Ident,
+) -> Result<Member, Refusal>
+    requires { most < 200 }
+    ensures { Reads (spec.method (spec_statement.value most) (spec_statement.body most) mods answer name tokens.old) result tokens.new }
+{
+    let tree = maker(alloc, tokens, most, mods, name)?;
+    Ok(Member::Method(with_answer(answer, tree)))
+}
+
+/// What stands behind the name of a field (JLS 8.3).
+#[tactic(auto, unfolding(java_reading::specs::ReadClass::field))]
+fn field(
+    alloc: Global,
+    tokens: &mut Tokens<'_>,
+    most: u32,
+    mods: Mods,
+    ty: TypeTree,
+    name: Ident,
+) -> Result<Member, Refusal>
+    requires { most < 200 }
+    ensures { Reads (spec.field (spec_statement.value most) (spec_statement.body most) mods ty name tokens.old) result tokens.new }
+{
+    let value = initial(alloc, tokens, most)?;
+    tokens.expect(Operator::Semicolon)?;
+    Ok(Member::Field(FieldTree {
+        mods,
+        ty,
+        name,
+        value,
+    }))
+}
+
+/// What stands behind modifiers and `void`.
+#[tactic(auto, unfolding(java_reading::specs::ReadClass::void_method))]
+fn void_method(
+    alloc: Global,
+    tokens: &mut Tokens<'_>,
+    most: u32,
+    mods: Mods,
+) -> Result<Member, Refusal>
+    requires { most < 200 }
+    ensures { Reads (spec.void_method (spec_statement.value most) (spec_statement.body most) mods tokens.old) result tokens.new }
+{
+    let name = tokens.ident()?;
+    method(alloc, tokens, most, mods, None, name)
+}
+
+/// What stands behind the modifiers of a constructor.
+#[tactic(auto, unfolding(java_reading::specs::ReadClass::constructor))]
+fn constructor(
+    alloc: Global,
+    tokens: &mut Tokens<'_>,
+    most: u32,
+    mods: Mods,
+) -> Result<Member, Refusal>
+    requires { most < 200 }
+    ensures { Reads (spec.constructor (spec_statement.value most) (spec_statement.body most) mods tokens.old) result tokens.new }
+{
+    let name = tokens.ident()?;
+    Ok(Member::Maker(maker(alloc, tokens, most, mods, name)?))
+}
+
+/// What stands behind the modifiers of a field, or of a method with a result.
+#[tactic(auto, unfolding(java_reading::specs::ReadClass::typed))]
+fn typed(alloc: Global, tokens: &mut Tokens<'_>, most: u32, mods: Mods) -> Result<Member, Refusal>
+    requires { most < 200 }
+    ensures { Reads (spec.typed (spec_statement.value most) (spec_statement.body most) mods tokens.old) result tokens.new }
+{
+    let ty = tokens.type_tree()?;
+    let name = tokens.ident()?;
+    if tokens.sees(Operator::LeftParen) {
+        method(alloc, tokens, most, mods, Some(ty), name)
+    } else {
+        field(alloc, tokens, most, mods, ty, name)
+    }
+}
+
+/// Whether a name and a `(` come next, as in a constructor.
+fn is_maker(tokens: &Tokens<'_>) -> bool
+    ensures { result ≡ spec.is_maker tokens.now }
+{
+    let mut behind = tokens.fork();
+    behind.skip();
+    tokens.sees_name() && behind.sees(Operator::LeftParen)
+}
+
+/// What stands behind modifiers.
+#[tactic(auto, unfolding(java_reading::specs::ReadClass::declared))]
+fn declared(
+    alloc: Global,
+    tokens: &mut Tokens<'_>,
+    most: u32,
+    mods: Mods,
+) -> Result<Member, Refusal>
+    requires { most < 200 }
+    ensures { Reads (spec.declared (spec_statement.value most) (spec_statement.body most) mods tokens.old) result tokens.new }
+{
+    if tokens.eat_word(Keyword::Void) {
+        return void_method(alloc, tokens, most, mods);
+    }
+    if is_maker(tokens) {
+        constructor(alloc, tokens, most, mods)
+    } else {
+        typed(alloc, tokens, most, mods)
+    }
+}
+
+/// A member whose parts have at most this height.
+#[tactic(auto, unfolding(java_reading::specs::ReadClass::member_node))]
+fn member_node(alloc: Global, tokens: &mut Tokens<'_>, most: u32) -> Result<Member, Refusal>
+    requires { most < 200 }
+    ensures { Reads (spec.member_node (spec_statement.value most) (spec_statement.body most) tokens.old) result tokens.new }
+{
+    if tokens.eat(Operator::Semicolon) {
+        return Ok(Member::Empty);
+    }
+    let words = modifiers(alloc, tokens)?;
+    declared(alloc, tokens, most, Mods { words })
+}
+
+/// A member of at most this height.
+#[tactic(auto, unfolding(java_reading::specs::ReadClass::member))]
+pub fn member(alloc: Global, tokens: &mut Tokens<'_>, most: u32) -> Result<Member, Refusal>
+    requires { most ≤ 200 }
+    ensures { Reads (spec.member most tokens.old) result tokens.new }
+{
+    if most == 0 {
+        return Err(tokens.too_high());
+    }
+    member_node(alloc, tokens, most - 1)
+}

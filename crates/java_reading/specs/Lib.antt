@@ -1,0 +1,8 @@
+pub mod Outcome
+pub mod ReadType
+pub mod ReadExpr
+pub mod ReadStmt
+pub mod ReadClass
+pub mod ExprLaws
+pub mod StmtLaws
+pub mod FileLaws

@@ -1,0 +1,7 @@
+use Rattle.std.proofs.Common.{◌≡◌, max, map, drop}
+use Rattle.java_syntax.specs.Height.{highest, expr_height}
+use Rattle.java_syntax.proofs.+expression_height.Given as goal
+
+abbrev pub invariant-height::highest_expression-loop-expression : goal.invariant-height::highest_expression-loop-expression
+invariant-height::highest_expression-loop-expression l =
+    max l.height (highest (map expr_height (drop l.expression-index l.expressions))) ≡ highest (map expr_height l.expressions)

@@ -1,0 +1,2 @@
+pub mod ExprHeights
+pub mod StmtHeights

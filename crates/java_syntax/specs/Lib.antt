@@ -1,0 +1,7 @@
+pub mod Lexeme
+pub mod Types
+pub mod Exprs
+pub mod Stmts
+pub mod Classes
+pub mod Spells
+pub mod Height

@@ -1,0 +1,83 @@
+use crate::expression::Expr;
+use crate::name::{Ident, TypeTree};
+use crate::statement::Stmt;
+use sqlite_items::Items;
+
+/// A source file: its classes in order (JLS 7.3).
+#[derive(Drop)]
+pub struct FileTree {
+    pub classes: Items<ClassTree>,
+}
+
+/// A class (JLS 8.1).
+#[derive(Drop)]
+pub struct ClassTree {
+    pub is_public: bool,
+    pub name: Ident,
+    pub parent: Option<Ident>,
+    pub members: Items<Member>,
+}
+
+/// A member of a class (JLS 8.1.6).
+#[derive(Drop)]
+pub enum Member {
+    Field(FieldTree),
+    Method(MethodTree),
+    Maker(MakerTree),
+    /// `;`
+    Empty,
+}
+
+/// The modifiers of a member in order, repeated ones included (JLS 8.3.1, 8.4.3, 8.8.3).
+#[derive(Drop)]
+pub struct Mods {
+    pub words: Items<Modifier>,
+}
+
+/// A modifier.
+#[derive(Clone, Copy, Debug, Drop, PartialEq, Eq)]
+pub enum Modifier {
+    Public,
+    Protected,
+    Private,
+    Static,
+    Final,
+}
+
+/// A field or a constant (JLS 8.3).
+#[derive(Drop)]
+pub struct FieldTree {
+    pub mods: Mods,
+    pub ty: TypeTree,
+    pub name: Ident,
+    pub value: Option<Expr>,
+}
+
+/// A method (JLS 8.4).
+#[derive(Drop)]
+pub struct MethodTree {
+    pub mods: Mods,
+    /// The type of its result; `None` for `void`.
+    pub answer: Option<TypeTree>,
+    pub name: Ident,
+    pub params: Items<ParamTree>,
+    pub throws: Items<Ident>,
+    pub body: Items<Stmt>,
+}
+
+/// A constructor (JLS 8.8).
+#[derive(Drop)]
+pub struct MakerTree {
+    pub mods: Mods,
+    pub name: Ident,
+    pub params: Items<ParamTree>,
+    pub throws: Items<Ident>,
+    pub body: Items<Stmt>,
+}
+
+/// A parameter of a method or constructor (JLS 8.4.1).
+#[derive(Drop)]
+pub struct ParamTree {
+    pub ty: TypeTree,
+    pub name: Ident,
+}

@@ -1,0 +1,9 @@
+pub mod Faults
+pub mod NamesLemmas
+pub mod AncestorLemmas
+pub mod IndexLemmas
+pub mod FieldLemmas
+pub mod MethodLemmas
+pub mod RowLemmas
+pub mod KnownLemmas
+pub mod CheckLemmas

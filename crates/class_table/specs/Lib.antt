@@ -1,0 +1,11 @@
+pub mod Names
+pub mod Members
+pub mod BuiltIn
+pub mod Declarations
+pub mod Ancestors
+pub mod Fields
+pub mod Faults
+pub mod Lines
+pub mod Index
+pub mod Rules
+pub mod Table

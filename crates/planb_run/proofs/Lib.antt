@@ -4,6 +4,7 @@ pub mod Sound
 pub mod Turns
 pub mod Typed
 pub mod Programs
+pub mod Places
 mod Rows
 pub mod Parts
 pub mod Loading

@@ -1,11 +1,8 @@
 -- What reading a whole source says of its program.
-use Rattle.std.proofs.Common.{◌≡◌, List, [], None, Result, Ok, Err, IsErrOf, sym, ◌∙◌, ap}
+use Rattle.std.proofs.Common.{◌≡◌, List, [], None, sym, ◌∙◌, ap}
 use Rattle.std.specs.Option.{option_map}
 use Rattle.java_tokens.specs.declared.token.TokenKind.{TokenKind}
 use Rattle.interpreter.specs.declared.program.Program.{Program}
-use Rattle.planb_run.specs.declared.parse.error.ParseError.{ParseError}
-use Rattle.planb_run.specs.declared.parse.error.ParseError.TheVariants.{Syntax, OutOfMemory}
-use Rattle.planb_run.specs.Reads.{Reads}
 use Rattle.planb_run.specs.Accepted.{IsProgramOf}
 use Rattle.planb_run.specs.Reading.{read, source}
 use Rattle.planb_run.proofs.Complete.{source_it}
@@ -17,12 +14,6 @@ program_is_read kinds p is = ap source is.spelled ∙ source_it is.source ∙ ap
 -- tokens that aren't read have no program
 pub no_program : (kinds : List TokenKind) → source kinds ≡ None → (p : Program) → IsProgramOf kinds p → ⊥
 no_program kinds none p is = let e = program_is_read kinds p is in cc
-
--- the same, as the parser answers
-pub refused : (kinds left : List TokenKind) (result : Result Program ParseError) → Reads (source kinds) result left → IsErrOf result Syntax → (p : Program) → IsProgramOf kinds p → ⊥
-refused kinds left (Ok q) is syntax p = absurd (cc)
-refused kinds left (Err Syntax) is syntax p = no_program kinds is p
-refused kinds left (Err OutOfMemory) is syntax p = absurd (cc)
 
 -- tokens have one program at most
 pub one_program_of : (kinds : List TokenKind) (p q : Program) → IsProgramOf kinds p → IsProgramOf kinds q → p ≡ q

@@ -1,5 +1,5 @@
 -- What the stages of the top call do. These definitions are internal: the headline's clauses follow from them.
-use Rattle.std.specs.Prelude.{◌≡◌, ℕ, List}
+use Rattle.std.specs.Prelude.{ℕ, List}
 use Rattle.pb_io.specs.Faults.{Rose}
 use Rattle.pb_io.specs.Sink.{SinkState}
 use Rattle.pb_io.specs.Files.{FilesState}

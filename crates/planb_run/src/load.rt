@@ -1,4 +1,4 @@
-ghost use Rattle.std.specs.Prelude.{IfOk, IfErr};
+ghost use Rattle.std.specs.Prelude.{◌≡◌, IfOk, IfErr};
 ghost use Rattle.interpreter.specs.WellTyped.{IsWellTyped};
 ghost use Rattle.planb_run.specs.Headline.{StartsAtMost, HasProgram};
 ghost use Rattle.planb_run.specs.Stages.{RefusesFile};

@@ -50,7 +50,8 @@ pub(crate) fn parse(alloc: Global, tokens: &[Token]) -> Result<Program, ParseFau
     }
 }
 
-/// The fault at the token with which the last ones of this number begin, or at the last token.
+/// The fault at the first of the last `left` tokens, or at the last token where `left` is 0.
+#[tactic(auto, using(crate::proofs::Places::place_among))]
 fn fault_at(tokens: &[Token], left: usize) -> ParseFault
     requires { 0 < length tokens.now }
     ensures { IsFaultAmong tokens.now result }

@@ -99,8 +99,7 @@ fn perform<F: Files, O: Sink>(
 fn tell<R: Sink>(report: &mut R, stop: Stop) -> Reported
     ensures { TellsStop (R.state report.old) (R.state report.new) stop result }
 {
-    let written = write_report(report, stop);
-    match written {
+    match write_report(report, stop) {
         Ok(()) => match report.flush() {
             Ok(()) => Reported::Whole,
             Err(OutsideFault::Failed) => Reported::WriteFault,

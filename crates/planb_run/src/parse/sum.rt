@@ -43,16 +43,10 @@ pub(super) fn read_sum(
 fn read_operand(tokens: &mut Cursor, locals: &Locals) -> Result<Expr, ParseError>
     ensures { Reads (spec.operand locals.now tokens.old) result tokens.new }
 {
-    match tokens.peek() {
-        Some(kind) => match operand_of(kind, locals) {
-            Some(operand) => {
-                tokens.skip();
-                Ok(operand)
-            }
-            None => Err(ParseError::Syntax),
-        },
-        None => Err(ParseError::Syntax),
-    }
+    let kind = tokens.peek().ok_or(ParseError::Syntax)?;
+    let operand = operand_of(kind, locals).ok_or(ParseError::Syntax)?;
+    tokens.skip();
+    Ok(operand)
 }
 
 /// The operand that a token is, if it is a number that an `int` holds, or the name of a local that is declared.
@@ -60,14 +54,8 @@ fn operand_of(kind: &TokenKind, locals: &Locals) -> Option<Expr>
     ensures { result ≡ option_and_then (operand_expr locals.now) (spec.operand_of kind.now) }
 {
     match kind {
-        TokenKind::Number(number) => match i32::try_from(*number) {
-            Ok(value) => Some(Expr::Int(value)),
-            Err(_) => None,
-        },
-        TokenKind::Ident(name) => match locals.number_of(name) {
-            Some(number) => Some(Expr::Local(number)),
-            None => None,
-        },
+        TokenKind::Number(number) => Some(Expr::Int(i32::try_from(*number).ok()?)),
+        TokenKind::Ident(name) => Some(Expr::Local(locals.number_of(name)?)),
         _ => None,
     }
 }

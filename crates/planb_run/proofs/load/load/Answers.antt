@@ -1,6 +1,7 @@
 use Rattle.std.proofs.Common.{Err, ap, arith}
 use Rattle.std.proofs.lemmas.Result.{err_from_is_err_and}
 use Rattle.planb_run.proofs.Loading.{untokened, unparsed}
+use Rattle.planb_run.proofs.Places.{some_token}
 use Rattle.planb_run.proofs.load.load.Goals as goal
 
 pub returns-in_err-tokens-clause-err : goal.returns-in_err-tokens-clause-err
@@ -10,7 +11,8 @@ returns-in_err-tokens-clause-err g c =
     rw (p.1, p.2) (untokened (g.F.Files.state c.args.files.now) (g.F.Files.state c.read_file.new.files) c.args.file.now c.in_ok-bytes.bytes.items told.there told.whole (omega (arith, told.within)) _ (rw c.deref.ensures.value at c.in_err-tokens.ensures.err))
 
 pub parse-requires : goal.parse-requires
-parse-requires g c = omega (arith, c.in_ok-tokens.ensures.few, c.in_ok-bytes.ensures.within, c.deref.ensures.len, c.deref-2.ensures.len)
+parse-requires g c =
+    omega (arith, some_token _ _ c.in_ok-tokens.ensures.ok, c.in_ok-tokens.ensures.few, c.in_ok-bytes.ensures.within, c.deref.ensures.len, c.deref-2.ensures.len)
 
 pub returns-in_err-program-clause-err : goal.returns-in_err-program-clause-err
 returns-in_err-program-clause-err g c =

@@ -1,6 +1,7 @@
 use Rattle.planb_run.specs.Accepted.{kinds_of}
-use Rattle.planb_run.proofs.Programs.{refused}
+use Rattle.planb_run.proofs.Programs.{no_program}
 use Rattle.planb_run.proofs.parse.parse.Goals as goal
 
-pub returns-clause-syntax : goal.returns-clause-syntax
-returns-clause-syntax c = refused (kinds_of c.args.tokens.now) c.read_source.new.tokens c.read_source.result (rw c.new-cursor.ensures at c.read_source.ensures)
+pub returns-in-Err-Syntax-clause-syntax : goal.returns-in-Err-Syntax-clause-syntax
+returns-in-Err-Syntax-clause-syntax c line column said =
+    no_program (kinds_of c.args.tokens.now) (rw (c.new-cursor.ensures, c.in-Err-Syntax.field-0-is) at c.in-Err-Syntax.ensures)

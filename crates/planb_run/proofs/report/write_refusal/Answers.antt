@@ -12,6 +12,6 @@ returns-in-Lexical g c =
 
 pub returns-in-Syntax : goal.returns-in-Syntax
 returns-in-Syntax g c =
-    let line = c.as_bytes-line.ensures.value ∙ c.format.ensures.text in
-    let column = c.as_bytes-column.ensures.value ∙ c.format-in-Syntax.ensures.text in
-    rw (c.in-Syntax.is, ← line, ← column, place-text c.as_bytes-line.result.now c.as_bytes-column.result.now) c.put_parts.ensures
+    let line = c.as_bytes-line.ensures.value ∙ c.format-in-Syntax.ensures.text in
+    let column = c.as_bytes-column.ensures.value ∙ c.format-in-Syntax-2.ensures.text in
+    rw (c.in-Syntax.is, ← line, ← column, place-text c.as_bytes-line.result.now c.as_bytes-column.result.now) c.put_parts-in-Syntax.ensures

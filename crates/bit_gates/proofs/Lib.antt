@@ -4,3 +4,4 @@ pub mod Widths
 pub mod Joins
 pub mod Comparisons
 pub mod Sums
+pub mod Products

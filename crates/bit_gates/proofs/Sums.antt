@@ -62,7 +62,7 @@ no-sign : (ns : List Node) → sign (map (λ (n : Node). false) ns) ≡ false
 no-sign [] = refl
 no-sign (n ∷ ns) = no-sign_after ns
 
-no-whole : (ns : List Node) → whole (map (λ (n : Node). false) ns) ≡ pos 0
+pub no-whole : (ns : List Node) → whole (map (λ (n : Node). false) ns) ≡ pos 0
 no-whole ns =
     let none = map (λ (n : Node). false) ns in
     let worth : bit (sign none) * 2 ^ length none ≡ 0 = ap (λ s. bit s * 2 ^ length none) (no-sign ns) ∙ omega arith in
@@ -116,6 +116,12 @@ bounds-append (p ∷ ps) qs = omega (arith, bounds-append ps qs)
 widths-append : (ps qs : List (Node × Bits)) → widths (ps ++ qs) ≡ widths ps + widths qs
 widths-append [] qs = omega arith
 widths-append (p ∷ ps) qs = omega (arith, widths-append ps qs)
+
+pub bounds-push : (ps : List (Node × Bits)) (p : Node × Bits) → bounds (ps ++ p ∷ []) ≡ bounds ps + p.1.most
+bounds-push ps p = omega (arith, bounds-append ps (p ∷ []))
+
+pub widths-push : (ps : List (Node × Bits)) (p : Node × Bits) → widths (ps ++ p ∷ []) ≡ widths ps + length p.1.nodes.items
+widths-push ps p = omega (arith, widths-append ps (p ∷ []))
 
 pub bounds-next : (ps : List (Node × Bits)) (i : ℕ) (d : Node × Bits) → i < length ps → bounds (take (i + 1) ps) ≡ bounds (take i ps) + (get_or ps i d).1.most
 bounds-next ps i d h = ap bounds (take_more ps i d h) ∙ bounds-append (take i ps) (get_or ps i d ∷ []) ∙ omega arith

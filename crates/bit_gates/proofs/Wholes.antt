@@ -95,7 +95,7 @@ halves_of (b ∷ bits) n size =
     let e : length bits ≡ n = omega arith in
     subst (λ k. Halves (2 ^ k) (unsigned (b ∷ bits)) (sign_after b bits) (whole (b ∷ bits))) e (halves b bits)
 
-twice : (n : ℕ) → 2 ^ suc n ≡ 2 ^ n + 2 ^ n
+pub twice : (n : ℕ) → 2 ^ suc n ≡ 2 ^ n + 2 ^ n
 twice n = omega (arith, pow-suc 2 n)
 
 pub sum-whole : (xs ys ds : List Bool) (c : Bool) (n : ℕ) → length xs ≡ suc n → length ys ≡ suc n → length ds ≡ suc n → unsigned ds + bit c * 2 ^ suc n ≡ unsigned xs + unsigned ys → InRange (2 ^ n) (whole xs +ℤ whole ys) → whole ds ≡ whole xs +ℤ whole ys

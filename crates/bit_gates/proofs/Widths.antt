@@ -12,7 +12,7 @@ use Rattle.std.specs.Int.{w128, leading_zeros}
 use Rattle.std.proofs.Math.Nat.{pow-suc, pow-le-pow_right}
 use Rattle.std.proofs.lemmas.Nat.{leading_length}
 use Rattle.std.proofs.lemmas.Bool.{cases_lt}
-use Rattle.bit_gates.specs.Whole.{width_of, sign, sign_after, whole}
+use Rattle.bit_gates.specs.Whole.{IsLeastWidth, width_of, sign, sign_after, whole}
 use Rattle.bit_gates.specs.Digits.{last_of, resized_to}
 use Rattle.bit_gates.proofs.Wholes.{InRange, whole-cut, whole-widened}
 
@@ -26,6 +26,22 @@ pub digits_of : (most : ℕ) → most < 2 ^ 128 → (n : ℕ) × HasDigits most 
 digits_of most h =
     let p = leading_length 128 most h in
     (p.0, record { width = omega (arith, p.1); below = p.2; needed = p.3 })
+
+pub least-width : (most width : ℕ) → most < 2 ^ 128 → width ≡ width_of most → IsLeastWidth width most
+least-width most width h e =
+    let p = digits_of most h in
+    let size : width ≡ suc p.0 = e ∙ p.1.width in
+    let lower : width - 1 ≡ p.0 = omega arith in
+    record {
+      some = omega arith;
+      fits = omega (arith, p.1.below, ap (λ n. 2 ^ n) lower);
+      least = λ k small. elim (cases_lt k p.0) [
+        | inl below ↦
+            let far : 2 ^ suc k ≤ 2 ^ p.0 = pow-le-pow_right {n = 2} (omega arith) {i = suc k} {j = p.0} (omega arith) in
+            absurd (omega (arith, far, pow-suc 2 k, p.1.needed, small))
+        | inr not ↦ omega arith
+      ];
+    }
 
 pub digits-le : (m n j k : ℕ) → m ≤ n → HasDigits m j → HasDigits n k → j ≤ k
 digits-le m n j k h p q = elim (cases_lt k j) [

@@ -1,5 +1,5 @@
 -- Bits in a net.
-use Rattle.std.specs.Prelude.{ℕ, ◌≤◌, ◌≡◌, ℤ, unsigned_abs, Bool, List, length, map}
+use Rattle.std.specs.Prelude.{◌≤◌, ◌≡◌, ℤ, unsigned_abs, Bool, List, length, map}
 use Rattle.std.specs.List.{All}
 use Rattle.gate_net.specs.Net.{IsNode, Always}
 use Rattle.gate_net.specs.declared.gate.Gate.{Gate}

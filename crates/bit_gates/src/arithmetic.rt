@@ -11,7 +11,9 @@ use crate::negation::negated;
 use gate_net::Net;
 use std::alloc::AllocError;
 
-/// The sum of two numbers.
+/// The sum of two numbers, with the sum of both bounds. It adds at most five nodes for each digit of the result.
+///
+/// Answers `AllocError` where memory is refused. Earlier nodes keep their values, also then.
 pub fn add(net: &mut Net, a: &Bits, b: &Bits) -> Result<Bits, AllocError>
     requires first { IsBits net.old a.now }
     requires second { IsBits net.old b.now }
@@ -26,7 +28,10 @@ pub fn add(net: &mut Net, a: &Bits, b: &Bits) -> Result<Bits, AllocError>
     joined(net, Rule::Sum, a, b)
 }
 
-/// The first number less the second.
+/// The first number less the second, with the sum of both bounds. It adds at most five nodes for each digit of the
+/// result.
+///
+/// Answers `AllocError` where memory is refused. Earlier nodes keep their values, also then.
 pub fn minus(net: &mut Net, a: &Bits, b: &Bits) -> Result<Bits, AllocError>
     requires first { IsBits net.old a.now }
     requires second { IsBits net.old b.now }
@@ -41,7 +46,9 @@ pub fn minus(net: &mut Net, a: &Bits, b: &Bits) -> Result<Bits, AllocError>
     joined(net, Rule::Difference, a, b)
 }
 
-/// The negation of a number.
+/// The negation of a number, with the number's bound. It adds at most three nodes for each digit.
+///
+/// Answers `AllocError` where memory is refused. Earlier nodes keep their values, also then.
 pub fn neg(net: &mut Net, a: &Bits) -> Result<Bits, AllocError>
     requires bits { IsBits net.old a.now }
     requires small { a.now.most ≤ 2 ^ 88 }

@@ -1,7 +1,7 @@
 ghost use Rattle.std.specs.Prelude.{◌≡◌, ◌<◌, ◌≤◌, ◌^◌, IfOk, length, map};
 ghost use Rattle.std.specs.List.{All};
 ghost use Rattle.gate_net.specs.Net.{Always, IsNode};
-ghost use Rattle.bit_gates.specs.Whole.{width_of, whole};
+ghost use Rattle.bit_gates.specs.Whole.{IsLeastWidth, width_of, whole};
 ghost use Rattle.bit_gates.specs.Bits.{IsBits, number};
 ghost use Rattle.bit_gates.specs.Digits.{resized_to};
 
@@ -15,9 +15,10 @@ pub struct Bits {
     pub most: u128,
 }
 
-// The width of bits with this bound.
-pub(crate) fn width(most: u128) -> usize
-    ensures { result ≡ width_of most }
+/// The width of bits with this bound: the least one at which two's complement has each number within the bound.
+pub fn width(most: u128) -> usize
+    ensures width { result ≡ width_of most }
+    ensures least { IsLeastWidth result most }
 {
     129 - most.leading_zeros() as usize
 }

@@ -12,7 +12,10 @@ use crate::digits::{Rule, choose, join};
 use gate_net::{Net, Node};
 use std::alloc::AllocError;
 
-/// A node that is true where the first number is less than the second.
+/// A node that is true where the first number is less than the second. It adds at most five nodes for each digit of the
+/// wider number.
+///
+/// Answers `AllocError` where memory is refused. Earlier nodes keep their values, also then.
 pub fn less(net: &mut Net, a: &Bits, b: &Bits) -> Result<Node, AllocError>
     requires first { IsBits net.old a.now }
     requires second { IsBits net.old b.now }
@@ -28,7 +31,9 @@ pub fn less(net: &mut Net, a: &Bits, b: &Bits) -> Result<Node, AllocError>
     less_nodes(net, first.as_slice(), second.as_slice())
 }
 
-/// A node that is true where the two numbers are equal.
+/// A node that is true where the two numbers are equal. It adds at most two nodes for each digit of the wider number.
+///
+/// Answers `AllocError` where memory is refused. Earlier nodes keep their values, also then.
 pub fn equal(net: &mut Net, a: &Bits, b: &Bits) -> Result<Node, AllocError>
     requires first { IsBits net.old a.now }
     requires second { IsBits net.old b.now }

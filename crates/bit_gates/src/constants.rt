@@ -9,7 +9,9 @@ use crate::bits::width;
 use gate_net::{Net, Node};
 use std::alloc::AllocError;
 
-/// The bits of a number. No node is added.
+/// The bits of a number, whose bound is its magnitude. The net stays as it is.
+///
+/// Answers `AllocError` where memory is refused.
 pub fn constant(net: &mut Net, n: i128) -> Result<Bits, AllocError>
     requires { unsigned_abs n ≤ 2 ^ 80 }
     ensures grows { net.new ≡ net.old }

@@ -4,9 +4,9 @@
 //! width: the least one at which every number within the bound fits. So no sum is ever cut off.
 //!
 //! Used above: each call adds gates to a net and gives the bits of a result; its contract says which number these
-//! mean in the net and in each net that continues it, whatever the inputs' values.
+//! mean in the net and in each net that continues it, whatever the inputs' values, and how many nodes it adds at most.
 //!
-//! Read `bits`, `digits`, then `arithmetic`, `compare`, `product` and `total`.
+//! Read `bits`, `digits`, then `constants`, `negation`, `arithmetic`, `compare`, `product` and `total`.
 #![tactic(auto)]
 
 mod arithmetic;
@@ -15,12 +15,14 @@ mod compare;
 mod constants;
 mod digits;
 mod negation;
+mod product;
 #[cfg(test)]
 mod tests;
 mod total;
 
 pub use arithmetic::{add, minus, neg};
-pub use bits::Bits;
+pub use bits::{Bits, width};
 pub use compare::{equal, less};
 pub use constants::constant;
+pub use product::times_constant;
 pub use total::{count, sum};

@@ -1,24 +1,30 @@
 //! Numbers at the edges of widths, and random ones: the gates give what plain arithmetic gives.
 
-ghost use Rattle.std.specs.Prelude.{◌≡◌, ◌≤◌, ◌^◌, unsigned_abs};
+ghost use Rattle.std.specs.Prelude.{◌≡◌, ◌≤◌, ◌*◌, ◌^◌, ◌≤ℤ◌, pos, IfOk, length, unsigned_abs};
+ghost use Rattle.std.specs.List.{All};
+ghost use Rattle.bit_gates.specs.Whole.{width_of};
+ghost use Rattle.bit_gates.specs.Totals.{IsPart, bounds, widths};
 ghost use Rattle.gate_net.specs.Net.{inputs_of};
 ghost use Rattle.bit_gates.specs.Bits.{IsBits};
 
-use crate::{Bits, add, constant, equal, less, minus, neg};
-use gate_net::Net;
+mod pairs;
+
+use crate::{Bits, add, constant, count, equal, less, minus, neg, sum, times_constant};
+use gate_net::{Net, Node};
+use pairs::PAIRS;
 use std::alloc::{AllocError, Global};
 use std::process::Abort;
 use std::test::Fail;
 
-// The number that the bits mean in a net without inputs.
-fn read(net: &Net, bits: &Bits) -> Result<i128, AllocError>
+// The number that the bits mean where the inputs have these values.
+fn read(net: &Net, bits: &Bits, inputs: &[bool]) -> Result<i128, AllocError>
     requires bits { IsBits net.now bits.now }
-    requires inputs { inputs_of net.now ≡ 0 }
+    requires inputs { length inputs.now ≡ inputs_of net.now }
 {
     let mut number = 0i128;
     let width = bits.nodes.len();
     for i in 0..width {
-        let digit = net.value(bits.nodes[width - 1 - i], &[])?;
+        let digit = net.value(bits.nodes[width - 1 - i], inputs)?;
         let worth = if i == 0 { -1 } else { 1 };
         number = number
             .wrapping_mul(2)
@@ -44,7 +50,7 @@ fn check_sum(rt: &impl Abort, alloc: Global, x: i128, y: i128) -> Result<(), Fai
     let a = constant(&mut net, x)?;
     let b = constant(&mut net, y)?;
     let total = add(&mut net, &a, &b)?;
-    assert_eq!(rt; read(&net, &total)?, x.wrapping_add(y), "{x} + {y}");
+    assert_eq!(rt; read(&net, &total, &[])?, x.wrapping_add(y), "{x} + {y}");
     Ok(())
 }
 
@@ -56,7 +62,11 @@ fn check_difference(rt: &impl Abort, alloc: Global, x: i128, y: i128) -> Result<
     let a = constant(&mut net, x)?;
     let b = constant(&mut net, y)?;
     let difference = minus(&mut net, &a, &b)?;
-    assert_eq!(rt; read(&net, &difference)?, x.wrapping_sub(y), "{x} - {y}");
+    assert_eq!(rt;
+        read(&net, &difference, &[])?,
+        x.wrapping_sub(y),
+        "{x} - {y}"
+    );
     Ok(())
 }
 
@@ -66,7 +76,7 @@ fn check_negation(rt: &impl Abort, alloc: Global, x: i128) -> Result<(), Fail>
     let mut net = Net::new(alloc)?;
     let a = constant(&mut net, x)?;
     let negation = neg(&mut net, &a)?;
-    assert_eq!(rt; read(&net, &negation)?, x.wrapping_neg(), "-{x}");
+    assert_eq!(rt; read(&net, &negation, &[])?, x.wrapping_neg(), "-{x}");
     Ok(())
 }
 
@@ -94,6 +104,81 @@ fn check_equal(rt: &impl Abort, alloc: Global, x: i128, y: i128) -> Result<(), F
     Ok(())
 }
 
+// A number of at most this magnitude: the one that is nearest.
+fn nearest(y: i128, most: i64) -> i64
+    requires some { pos 0 ≤ℤ most }
+    requires small { most ≤ℤ pos 2147483648 }
+    ensures { unsigned_abs result ≤ unsigned_abs most }
+{
+    y.clamp(-i128::from(most), i128::from(most)) as i64
+}
+
+// A factor at which the product with x stays within 2^88.
+fn factor(x: i128, y: i128) -> i64
+    requires { unsigned_abs x ≤ 2 ^ 80 }
+    ensures factor { unsigned_abs result ≤ 2 ^ 31 }
+    ensures small { unsigned_abs result * unsigned_abs x ≤ 2 ^ 88 }
+{
+    if x.unsigned_abs() <= 1 << 57 {
+        nearest(y, 1 << 31)
+    } else {
+        nearest(y, 1 << 8)
+    }
+}
+
+fn check_product(rt: &impl Abort, alloc: Global, k: i64, x: i128) -> Result<(), Fail>
+    requires number { unsigned_abs x ≤ 2 ^ 80 }
+    requires factor { unsigned_abs k ≤ 2 ^ 31 }
+    requires small { unsigned_abs k * unsigned_abs x ≤ 2 ^ 88 }
+{
+    let mut net = Net::new(alloc)?;
+    let a = constant(&mut net, x)?;
+    let product = times_constant(&mut net, k, &a)?;
+    let expected = i128::from(k).wrapping_mul(x);
+    assert_eq!(rt; read(&net, &product, &[])?, expected, "{k} * {x}");
+    Ok(())
+}
+
+// The true ones among the digits of a number: a negative one has a 1 for each digit of the width that isn't its own.
+fn check_count(rt: &impl Abort, alloc: Global, x: i128) -> Result<(), Fail>
+    requires { unsigned_abs x ≤ 2 ^ 80 }
+{
+    let mut net = Net::new(alloc)?;
+    let a = constant(&mut net, x)?;
+    let ones = count(&mut net, a.nodes.as_slice())?;
+    let beyond = if x < 0 {
+        128usize.saturating_sub(a.nodes.len())
+    } else {
+        0
+    };
+    let expected = i128::from(x.count_ones()).wrapping_sub(beyond as i128);
+    assert_eq!(rt; read(&net, &ones, &[])?, expected, "the ones of {x}");
+    Ok(())
+}
+
+// Where an input is false, its part doesn't count.
+fn check_total(rt: &impl Abort, alloc: Global, x: i128, y: i128) -> Result<(), Fail>
+    requires first { unsigned_abs x ≤ 2 ^ 80 }
+    requires second { unsigned_abs y ≤ 2 ^ 80 }
+{
+    let mut net = Net::new(alloc)?;
+    let p = net.input()?;
+    let q = net.input()?;
+    let a = constant(&mut net, x)?;
+    let b = constant(&mut net, y)?;
+    let parts = vec![in alloc; (p, a), (q, b)]?;
+    let total = sum(&mut net, parts.as_slice())?;
+    for (first, second) in [(false, false), (false, true), (true, false), (true, true)] {
+        let expected = (if first { x } else { 0 }).wrapping_add(if second { y } else { 0 });
+        assert_eq!(rt;
+            read(&net, &total, &[first, second])?,
+            expected,
+            "{first} {x} and {second} {y}"
+        );
+    }
+    Ok(())
+}
+
 #[test]
 fn agrees_with_whole_numbers(rt: HostRuntime) -> Result<(), Fail> {
     for (x, y) in PAIRS {
@@ -101,211 +186,38 @@ fn agrees_with_whole_numbers(rt: HostRuntime) -> Result<(), Fail> {
         check_sum(&rt, rt.alloc(), x, y)?;
         check_difference(&rt, rt.alloc(), x, y)?;
         check_negation(&rt, rt.alloc(), x)?;
+        check_product(&rt, rt.alloc(), factor(x, y), x)?;
+        check_count(&rt, rt.alloc(), x)?;
+        check_total(&rt, rt.alloc(), x, y)?;
         check_less(&rt, rt.alloc(), x, y)?;
         check_equal(&rt, rt.alloc(), x, y)?;
     }
     Ok(())
 }
 
-const PAIRS: [(i128, i128); 200] = [
-    (0, 0),
-    (0, 1),
-    (0, -1),
-    (0, 2),
-    (0, -2),
-    (0, 2147483648),
-    (0, -2147483648),
-    (0, 2147483647),
-    (0, 1208925819614629174706176),
-    (0, -1208925819614629174706176),
-    (1, 0),
-    (1, 1),
-    (1, -1),
-    (1, 2),
-    (1, -2),
-    (1, 2147483648),
-    (1, -2147483648),
-    (1, 2147483647),
-    (1, 1208925819614629174706176),
-    (1, -1208925819614629174706176),
-    (-1, 0),
-    (-1, 1),
-    (-1, -1),
-    (-1, 2),
-    (-1, -2),
-    (-1, 2147483648),
-    (-1, -2147483648),
-    (-1, 2147483647),
-    (-1, 1208925819614629174706176),
-    (-1, -1208925819614629174706176),
-    (2, 0),
-    (2, 1),
-    (2, -1),
-    (2, 2),
-    (2, -2),
-    (2, 2147483648),
-    (2, -2147483648),
-    (2, 2147483647),
-    (2, 1208925819614629174706176),
-    (2, -1208925819614629174706176),
-    (-2, 0),
-    (-2, 1),
-    (-2, -1),
-    (-2, 2),
-    (-2, -2),
-    (-2, 2147483648),
-    (-2, -2147483648),
-    (-2, 2147483647),
-    (-2, 1208925819614629174706176),
-    (-2, -1208925819614629174706176),
-    (2147483648, 0),
-    (2147483648, 1),
-    (2147483648, -1),
-    (2147483648, 2),
-    (2147483648, -2),
-    (2147483648, 2147483648),
-    (2147483648, -2147483648),
-    (2147483648, 2147483647),
-    (2147483648, 1208925819614629174706176),
-    (2147483648, -1208925819614629174706176),
-    (-2147483648, 0),
-    (-2147483648, 1),
-    (-2147483648, -1),
-    (-2147483648, 2),
-    (-2147483648, -2),
-    (-2147483648, 2147483648),
-    (-2147483648, -2147483648),
-    (-2147483648, 2147483647),
-    (-2147483648, 1208925819614629174706176),
-    (-2147483648, -1208925819614629174706176),
-    (2147483647, 0),
-    (2147483647, 1),
-    (2147483647, -1),
-    (2147483647, 2),
-    (2147483647, -2),
-    (2147483647, 2147483648),
-    (2147483647, -2147483648),
-    (2147483647, 2147483647),
-    (2147483647, 1208925819614629174706176),
-    (2147483647, -1208925819614629174706176),
-    (1208925819614629174706176, 0),
-    (1208925819614629174706176, 1),
-    (1208925819614629174706176, -1),
-    (1208925819614629174706176, 2),
-    (1208925819614629174706176, -2),
-    (1208925819614629174706176, 2147483648),
-    (1208925819614629174706176, -2147483648),
-    (1208925819614629174706176, 2147483647),
-    (1208925819614629174706176, 1208925819614629174706176),
-    (1208925819614629174706176, -1208925819614629174706176),
-    (-1208925819614629174706176, 0),
-    (-1208925819614629174706176, 1),
-    (-1208925819614629174706176, -1),
-    (-1208925819614629174706176, 2),
-    (-1208925819614629174706176, -2),
-    (-1208925819614629174706176, 2147483648),
-    (-1208925819614629174706176, -2147483648),
-    (-1208925819614629174706176, 2147483647),
-    (-1208925819614629174706176, 1208925819614629174706176),
-    (-1208925819614629174706176, -1208925819614629174706176),
-    (1208925819614629174706175, 0),
-    (1208925819614629174706175, 1),
-    (1208925819614629174706175, -1),
-    (1208925819614629174706175, 2),
-    (1208925819614629174706175, -2),
-    (1208925819614629174706175, 2147483648),
-    (1208925819614629174706175, -2147483648),
-    (1208925819614629174706175, 2147483647),
-    (1208925819614629174706175, 1208925819614629174706176),
-    (1208925819614629174706175, -1208925819614629174706176),
-    (-604462909807314587353088, 0),
-    (-604462909807314587353088, 1),
-    (-604462909807314587353088, -1),
-    (-604462909807314587353088, 2),
-    (-604462909807314587353088, -2),
-    (-604462909807314587353088, 2147483648),
-    (-604462909807314587353088, -2147483648),
-    (-604462909807314587353088, 2147483647),
-    (-604462909807314587353088, 1208925819614629174706176),
-    (-604462909807314587353088, -1208925819614629174706176),
-    (3, 0),
-    (3, 1),
-    (3, -1),
-    (3, 2),
-    (3, -2),
-    (3, 2147483648),
-    (3, -2147483648),
-    (3, 2147483647),
-    (3, 1208925819614629174706176),
-    (3, -1208925819614629174706176),
-    (-4, 0),
-    (-4, 1),
-    (-4, -1),
-    (-4, 2),
-    (-4, -2),
-    (-4, 2147483648),
-    (-4, -2147483648),
-    (-4, 2147483647),
-    (-4, 1208925819614629174706176),
-    (-4, -1208925819614629174706176),
-    (7, 0),
-    (7, 1),
-    (7, -1),
-    (7, 2),
-    (7, -2),
-    (7, 2147483648),
-    (7, -2147483648),
-    (7, 2147483647),
-    (7, 1208925819614629174706176),
-    (7, -1208925819614629174706176),
-    (-8, 0),
-    (-8, 1),
-    (-8, -1),
-    (-8, 2),
-    (-8, -2),
-    (-8, 2147483648),
-    (-8, -2147483648),
-    (-8, 2147483647),
-    (-8, 1208925819614629174706176),
-    (-8, -1208925819614629174706176),
-    (4294967296, 0),
-    (4294967296, 1),
-    (4294967296, -1),
-    (4294967296, 2),
-    (4294967296, -2),
-    (4294967296, 2147483648),
-    (4294967296, -2147483648),
-    (4294967296, 2147483647),
-    (4294967296, 1208925819614629174706176),
-    (4294967296, -1208925819614629174706176),
-    (-4294967296, 0),
-    (-4294967296, 1),
-    (-4294967296, -1),
-    (-4294967296, 2),
-    (-4294967296, -2),
-    (-4294967296, 2147483648),
-    (-4294967296, -2147483648),
-    (-4294967296, 2147483647),
-    (-4294967296, 1208925819614629174706176),
-    (-4294967296, -1208925819614629174706176),
-    (-1940095024, -160),
-    (31936245, -756559837649088296),
-    (-3994940529, -6766638554),
-    (-123413484589543331, -7),
-    (-924231163159193068, -133361530666493236),
-    (-4, 780016158696002966),
-    (-136, 269699819514586712),
-    (-677660935619078773, -737789106449922585505595),
-    (1136386263653922271, 858779532114734684746068),
-    (-201071568, -3007477843),
-    (-7, 242991109186098736427839),
-    (431080524023923399, 7427910944),
-    (2062335288, -392168080407914264),
-    (1860881378, 175),
-    (-6, 1192851222971351600286331),
-    (1033471155230129537, -8310761806),
-    (-396303292524102385817198, 1178417064952904338979128),
-    (1, -124),
-    (-819266085613541501074768, -86),
-    (2359826449, -500862631),
-];
+// 200 true parts with the greatest `int`, and a negative factor at the least one.
+#[test]
+fn totals_and_products_are_not_cut_off(rt: HostRuntime) -> Result<(), Fail> {
+    let mut net = Net::new(rt.alloc())?;
+    let parts = repeated(&mut net, 200)?;
+    let total = sum(&mut net, parts.as_slice())?;
+    assert_eq!(rt; read(&net, &total, &[])?, 429496729400);
+    check_product(&rt, rt.alloc(), -3, -2147483648)
+}
+
+// So many t// So many true parts with the greatest `int`.
+fn repeated(net: &mut Net, times: usize) -> Result<Vec<(Node, Bits)>, AllocError>
+    ensures net { net.new ≡ net.old }
+    ensures count { IfOk result (λ parts. length parts.items ≡ times) }
+    ensures parts { IfOk result (λ parts. All (IsPart net.new) parts.items) }
+    ensures bounds { IfOk result (λ parts. bounds parts.items ≡ 2147483647 * times) }
+    ensures widths { IfOk result (λ parts. widths parts.items ≡ width_of 2147483647 * times) }
+{
+    let mut parts = Vec::with_capacity(net.allocator(), times)?;
+    for _ in 0..times {
+        let yes = net.constant(true);
+        let number = constant(net, 2147483647)?;
+        parts.push((yes, number))?;
+    }
+    Ok(parts)
+}

@@ -9,7 +9,10 @@ use crate::{Bits, add, constant};
 use gate_net::{Net, Node};
 use std::alloc::AllocError;
 
-/// How many of the nodes are true.
+/// How many of the nodes are true; the bound is how many there are. It adds at most five nodes for each node and each
+/// digit of the result.
+///
+/// Answers `AllocError` where memory is refused. Earlier nodes keep their values, also then.
 pub fn count(net: &mut Net, of: &[Node]) -> Result<Bits, AllocError>
     requires nodes { All (IsNode net.old) of.now }
     requires room { nodes_of net.old + 5 * width_of (length of.now) * length of.now ≤ 2 ^ 28 }
@@ -38,7 +41,10 @@ fn digit(net: &Net, node: Node) -> Result<Bits, AllocError>
     Ok(Bits { nodes, most: 1 })
 }
 
-/// The sum of the numbers whose node is true.
+/// The sum of the numbers whose node is true, with the sum of all bounds. For each part it adds at most as many nodes as
+/// the part has digits, and five for each digit of the result.
+///
+/// Answers `AllocError` where memory is refused. Earlier nodes keep their values, also then.
 pub fn sum(net: &mut Net, of: &[(Node, Bits)]) -> Result<Bits, AllocError>
     requires parts { All (IsPart net.old) of.now }
     requires small { bounds of.now ≤ 2 ^ 88 }

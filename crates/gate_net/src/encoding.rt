@@ -22,6 +22,8 @@ impl Net {
     /// Clauses over one variable for each node (Tseitin): values of the inputs that make the root true have exactly
     /// one extension that satisfies them, and no other assignment does. There are at most four clauses for each
     /// node, and one for the root.
+    ///
+    /// Answers `AllocError` where memory is refused.
     pub fn clauses(&self, root: Node) -> Result<Clauses, AllocError>
         requires { IsNode self.now root }
         ensures variables { IfOk result (λ clauses. clauses.variables ≡ nodes_of self.now) }

@@ -28,6 +28,8 @@ impl Model for Net {
 
 impl Net {
     /// A net that holds the two constants, and no input.
+    ///
+    /// Answers `AllocError` where memory is refused.
     pub fn new(alloc: Global) -> Result<Net, AllocError>
         ensures nodes { IfOk result (λ net. nodes_of net ≡ 2) }
         ensures inputs { IfOk result (λ net. inputs_of net ≡ 0) }
@@ -60,7 +62,9 @@ impl Net {
         *self.gates.allocator()
     }
 
-    /// Makes an input. On refusal the net is unchanged.
+    /// Makes an input, whose value is that of the next place among the inputs' values.
+    ///
+    /// Answers `AllocError` where memory is refused: the net is then unchanged.
     pub fn input(&mut self) -> Result<Node, AllocError>
         requires { nodes_of self.old < 2 ^ 28 }
         ensures begins { Continues self.old self.new }
@@ -75,7 +79,9 @@ impl Net {
         self.add(Gate::Input)
     }
 
-    /// A node that is true where `a` is not. On refusal the net is unchanged.
+    /// A node that is true where `a` is not. At most one node is added.
+    ///
+    /// Answers `AllocError` where memory is refused: the net is then unchanged.
     pub fn not(&mut self, a: Node) -> Result<Node, AllocError>
         requires room { nodes_of self.old < 2 ^ 28 }
         requires operand { IsNode self.old a }
@@ -87,7 +93,9 @@ impl Net {
         self.add(Gate::Not(a))
     }
 
-    /// A node that is true where both are. On refusal the net is unchanged.
+    /// A node that is true where both are. At most one node is added.
+    ///
+    /// Answers `AllocError` where memory is refused: the net is then unchanged.
     pub fn and(&mut self, a: Node, b: Node) -> Result<Node, AllocError>
         requires room { nodes_of self.old < 2 ^ 28 }
         requires first { IsNode self.old a }
@@ -103,7 +111,9 @@ impl Net {
         self.add(Gate::Binary(Operator::And, a, b))
     }
 
-    /// A node that is true where one of the two is, or both are. On refusal the net is unchanged.
+    /// A node that is true where one of the two is, or both are. At most one node is added.
+    ///
+    /// Answers `AllocError` where memory is refused: the net is then unchanged.
     pub fn or(&mut self, a: Node, b: Node) -> Result<Node, AllocError>
         requires room { nodes_of self.old < 2 ^ 28 }
         requires first { IsNode self.old a }
@@ -119,7 +129,9 @@ impl Net {
         self.add(Gate::Binary(Operator::Or, a, b))
     }
 
-    /// A node that is true where exactly one of the two is. On refusal the net is unchanged.
+    /// A node that is true where exactly one of the two is. At most one node is added.
+    ///
+    /// Answers `AllocError` where memory is refused: the net is then unchanged.
     pub fn xor(&mut self, a: Node, b: Node) -> Result<Node, AllocError>
         requires room { nodes_of self.old < 2 ^ 28 }
         requires first { IsNode self.old a }

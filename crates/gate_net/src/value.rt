@@ -7,6 +7,8 @@ use std::alloc::{AllocError, Global};
 
 impl Net {
     /// The value of a node, where the inputs have these values in the order in which they were made.
+    ///
+    /// Answers `AllocError` where memory is refused.
     pub fn value(&self, node: Node, inputs: &[bool]) -> Result<bool, AllocError>
         requires node { IsNode self.now node }
         requires inputs { length inputs.now ≡ inputs_of self.now }

@@ -7,7 +7,9 @@ use crate::{Matrix, Row};
 use gate_net::{Net, Node};
 use std::alloc::AllocError;
 
-/// The objects to which an edge leads from a member of a set.
+/// The objects to which an edge leads from a member of a set. Over n objects it adds at most 2 * n * n nodes.
+///
+/// Answers `AllocError` where memory is refused. Earlier nodes keep their values, also then.
 pub fn image(net: &mut Net, s: &Row, r: &Matrix) -> Result<Row, AllocError>
     requires set { IsRow net.old (length r.now) s.now }
     requires relation { IsMatrix net.old (length r.now) r.now }
@@ -20,7 +22,10 @@ pub fn image(net: &mut Net, s: &Row, r: &Matrix) -> Result<Row, AllocError>
     image_row(net, s, r)
 }
 
-/// The pairs that an edge of the first relation and then one of the second join.
+/// The pairs that an edge of the first relation and then one of the second join. Over n objects it adds at most
+/// 2 * n * n * n nodes.
+///
+/// Answers `AllocError` where memory is refused. Earlier nodes keep their values, also then.
 pub fn join(net: &mut Net, r: &Matrix, s: &Matrix) -> Result<Matrix, AllocError>
     requires first { IsMatrix net.old (length s.now) r.now }
     requires second { IsMatrix net.old (length s.now) s.now }

@@ -8,7 +8,9 @@ use crate::{Matrix, Row};
 use gate_net::Net;
 use std::alloc::AllocError;
 
-/// The pairs of a relation turned round. No node is added.
+/// The pairs of a relation turned round. The net stays as it is.
+///
+/// Answers `AllocError` where memory is refused.
 pub fn converse(net: &mut Net, r: &Matrix) -> Result<Matrix, AllocError>
     requires { IsMatrix net.old (length r.now) r.now }
     ensures grows { net.new ≡ net.old }

@@ -31,7 +31,7 @@ pub returns-clause-value : goal.returns-clause-value
 returns-clause-value c =
     let width = c.width-width.result in
     joined-value c.args.rule c.args.net.now c.join.new.net c.args.a.now c.args.b.now c.in_ok-digits.digits.values.items c.as_slice-3.result.now c.as_slice-4.result.now c.in_ok-digits.digits.carry width
-    c.requires.first c.requires.second c.join.ensures.grows.begins c.requires.small c.width-width.ensures
+    c.requires.first c.requires.second c.join.ensures.grows.begins c.requires.small c.width-width.ensures.width
     (c.as_slice-3.ensures.value ∙ c.in_ok-first.ensures ∙ ap (λ ns. resized_to ns width) c.as_slice.ensures.value)
     (c.as_slice-4.ensures.value ∙ c.in_ok-second.ensures ∙ ap (λ ns. resized_to ns width) c.as_slice-2.ensures.value)
     c.in_ok-digits.ensures.width c.in_ok-digits.ensures.value
@@ -43,9 +43,9 @@ returns-clause-bits c =
     let first : c.as_slice-3.result.now ≡ resized_to a.nodes.items width = c.as_slice-3.ensures.value ∙ c.in_ok-first.ensures ∙ ap (λ ns. resized_to ns width) c.as_slice.ensures.value in
     let second = c.as_slice-4.ensures.value ∙ c.in_ok-second.ensures ∙ ap (λ ns. resized_to ns width) c.as_slice-2.ensures.value in
     let value = joined-value c.args.rule c.args.net.now c.join.new.net c.args.a.now c.args.b.now c.in_ok-digits.digits.values.items c.as_slice-3.result.now c.as_slice-4.result.now c.in_ok-digits.digits.carry width
-    c.requires.first c.requires.second c.join.ensures.grows.begins c.requires.small c.width-width.ensures first second c.in_ok-digits.ensures.width c.in_ok-digits.ensures.value in
+    c.requires.first c.requires.second c.join.ensures.grows.begins c.requires.small c.width-width.ensures.width first second c.in_ok-digits.ensures.width c.in_ok-digits.ensures.value in
     record {
       nodes = c.in_ok-digits.ensures.nodes;
-      width = c.in_ok-digits.ensures.width ∙ ap length first ∙ length-resized a.nodes.items width ∙ c.width-width.ensures;
+      width = c.in_ok-digits.ensures.width ∙ ap length first ∙ length-resized a.nodes.items width ∙ c.width-width.ensures.width;
       within = joined-within c.args.rule c.args.net.now c.join.new.net c.args.a.now c.args.b.now c.in_ok-digits.digits.values.items c.requires.first c.requires.second c.join.ensures.grows.begins value;
     }

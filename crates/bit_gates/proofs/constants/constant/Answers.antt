@@ -14,7 +14,7 @@ overflow_shl-pattern c =
     let z = to_z-of_z w128 c.args.n c.ranges.n in
     let most = c.unsigned_abs-most.result in
     let abs : most ≡ unsigned_abs c.args.n = simp z at c.unsigned_abs-most.ensures.value in
-    omega (arith, constant-wide most (omega (arith, abs, c.requires)), c.width-width.ensures)
+    omega (arith, constant-wide most (omega (arith, abs, c.requires)), c.width-width.ensures.width)
 
 pub overflow_sub-pattern : goal.overflow_sub-pattern
 overflow_sub-pattern c =
@@ -23,9 +23,9 @@ overflow_sub-pattern c =
     let width = c.width-width.result in
     let abs : unsigned_abs c.args.n ≡ most = sym (simp z at c.unsigned_abs-most.ensures.value) in
     let small : most ≤ 2 ^ 80 = omega (arith, abs, c.requires) in
-    let wide : width < 128 = omega (arith, constant-wide most small, c.width-width.ensures) in
+    let wide : width < 128 = omega (arith, constant-wide most small, c.width-width.ensures.width) in
     let shift = one_shl width 128 wide in
-    omega (arith, shift, most-below most small, ap (λ n. 2 ^ n) c.width-width.ensures)
+    omega (arith, shift, most-below most small, ap (λ n. 2 ^ n) c.width-width.ensures.width)
 
 pub binary-requires : goal.binary-requires
 binary-requires c =
@@ -34,8 +34,8 @@ binary-requires c =
     let width = c.width-width.result in
     let abs : unsigned_abs c.args.n ≡ most = sym (simp z at c.unsigned_abs-most.ensures.value) in
     let small : most ≤ 2 ^ 80 = omega (arith, abs, c.requires) in
-    let wide : width < 128 = omega (arith, constant-wide most small, c.width-width.ensures) in
-    let below : most < 2 ^ width = omega (arith, most-below most small, ap (λ n. 2 ^ n) c.width-width.ensures) in
+    let wide : width < 128 = omega (arith, constant-wide most small, c.width-width.ensures.width) in
+    let below : most < 2 ^ width = omega (arith, most-below most small, ap (λ n. 2 ^ n) c.width-width.ensures.width) in
     let pattern : IsPattern c.args.n most c.if-n-lt0.pattern width = elim c.if-n-lt0.branch [
       | then-n-lt0 w ↦ pattern-then c.args.n most c.if-n-lt0.pattern width (simp z at w.if-n-lt0.true) abs below wide w.pattern-is
       | else-n-lt0 w ↦ pattern-else c.args.n most c.if-n-lt0.pattern width (simp z at w.if-n-lt0.false) below w.pattern-is
@@ -49,13 +49,13 @@ returns-clause-value c = λ later f inputs.
     let width = c.width-width.result in
     let abs : unsigned_abs c.args.n ≡ most = sym (simp z at c.unsigned_abs-most.ensures.value) in
     let small : most ≤ 2 ^ 80 = omega (arith, abs, c.requires) in
-    let wide : width < 128 = omega (arith, constant-wide most small, c.width-width.ensures) in
-    let below : most < 2 ^ width = omega (arith, most-below most small, ap (λ n. 2 ^ n) c.width-width.ensures) in
+    let wide : width < 128 = omega (arith, constant-wide most small, c.width-width.ensures.width) in
+    let below : most < 2 ^ width = omega (arith, most-below most small, ap (λ n. 2 ^ n) c.width-width.ensures.width) in
     let pattern : IsPattern c.args.n most c.if-n-lt0.pattern width = elim c.if-n-lt0.branch [
       | then-n-lt0 w ↦ pattern-then c.args.n most c.if-n-lt0.pattern width (simp z at w.if-n-lt0.true) abs below wide w.pattern-is
       | else-n-lt0 w ↦ pattern-else c.args.n most c.if-n-lt0.pattern width (simp z at w.if-n-lt0.false) below w.pattern-is
     ] in
-    constant-value c.args.n c.in_ok-nodes.nodes.items (node_value later inputs) most c.if-n-lt0.pattern abs small (c.in_ok-nodes.ensures.width ∙ c.width-width.ensures) (c.in_ok-nodes.ensures.value later f inputs) pattern.plain (λ h. pattern.turned h ∙ ap (λ n. 2 ^ n) c.width-width.ensures)
+    constant-value c.args.n c.in_ok-nodes.nodes.items (node_value later inputs) most c.if-n-lt0.pattern abs small (c.in_ok-nodes.ensures.width ∙ c.width-width.ensures.width) (c.in_ok-nodes.ensures.value later f inputs) pattern.plain (λ h. pattern.turned h ∙ ap (λ n. 2 ^ n) c.width-width.ensures.width)
 
 pub returns-clause-bits : goal.returns-clause-bits
 returns-clause-bits c =
@@ -64,6 +64,6 @@ returns-clause-bits c =
     let abs : unsigned_abs c.args.n ≡ most = sym (simp z at c.unsigned_abs-most.ensures.value) in
     record {
       nodes = c.in_ok-nodes.ensures.nodes;
-      width = c.in_ok-nodes.ensures.width ∙ c.width-width.ensures;
+      width = c.in_ok-nodes.ensures.width ∙ c.width-width.ensures.width;
       within = λ later f inputs. omega (arith, abs, ap unsigned_abs (returns-clause-value c later f inputs));
     }

@@ -1,9 +1,7 @@
-use Rattle.std.proofs.Common.{◌≡◌, ◌<◌, ◌*◌, ◌||◌, ◌&&◌, ◌↔◌, ℕ, length, take}
-use Rattle.std.specs.Prelude.{IsTrue}
+use Rattle.std.proofs.Common.{◌≡◌, ◌<◌, ◌*◌, ◌||◌, ◌&&◌, ℕ, length}
 use Rattle.std.specs.List.{All}
-use Rattle.gate_net.specs.Net.{Always, Grows, IsNode}
-use Rattle.relation_gates.specs.Relations.{member, edge, IsRow, IsMatrix, IsPath}
-use Rattle.relation_gates.specs.Sets.{some_below}
+use Rattle.gate_net.specs.Net.{Always, Grows}
+use Rattle.relation_gates.specs.Relations.{edge, IsRow}
 use Rattle.relation_gates.proofs.paths.by_way_of.Given as goal
 
 abbrev pub invariant-loop-x : goal.invariant-loop-x

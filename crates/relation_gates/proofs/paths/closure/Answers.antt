@@ -1,11 +1,10 @@
-use Rattle.std.proofs.Common.{◌≡◌, ◌<◌, ◌≤◌, ◌+◌, ◌*◌, ◌++◌, ◌∷◌, [], ◌||◌, ◌&&◌, ◌∙◌, length, get_or, arith, sym, ap, subst, refl, true, ◌↔◌}
-use Rattle.gate_net.specs.Net.{Grows, IsNode, node_value}
-use Rattle.gate_net.proofs.Growth.{grows-same, grows_chain, grows-within, continues-then, continues-same}
-use Rattle.relation_gates.specs.Relations.{member, edge, IsRow, IsMatrix}
-use Rattle.relation_gates.specs.Sets.{combined, some_below}
+use Rattle.std.proofs.Common.{◌≡◌, ◌<◌, ◌+◌, ◌*◌, length, arith, sym, ap, subst, refl, true, ◌↔◌}
+use Rattle.gate_net.specs.Net.{Grows, node_value}
+use Rattle.gate_net.proofs.Growth.{grows-same, grows_chain, continues-then}
+use Rattle.relation_gates.specs.Relations.{edge, IsMatrix}
 use Rattle.relation_gates.specs.Relations.{IsPath}
 use Rattle.relation_gates.proofs.Warshall.{path-none, path-next}
-use Rattle.relation_gates.proofs.Rows.{RowAt, row-at, nodes-push, rows-push, matrix-on, size-push, member-next, edge-next, turn, turn_more, entry-is, some-more, some-iff, if-ok}
+use Rattle.relation_gates.proofs.Rows.{turn_more}
 use Rattle.relation_gates.proofs.paths.closure.Goals as goal
 
 pub loop-k-init : goal.loop-k-init

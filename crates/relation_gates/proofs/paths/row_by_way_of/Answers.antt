@@ -1,9 +1,8 @@
-use Rattle.std.proofs.Common.{◌≡◌, ◌<◌, ◌≤◌, ◌+◌, ◌*◌, ◌++◌, ◌∷◌, [], ◌||◌, ◌&&◌, ◌∙◌, length, get_or, arith, sym, ap, subst, refl}
-use Rattle.gate_net.specs.Net.{Grows, IsNode, node_value}
-use Rattle.gate_net.proofs.Growth.{grows_chain, grows-within, continues-then, continues-same}
-use Rattle.relation_gates.specs.Relations.{member, edge, IsRow, IsMatrix}
-use Rattle.relation_gates.specs.Sets.{combined, some_below}
-use Rattle.relation_gates.proofs.Rows.{RowAt, row-at, nodes-push, rows-push, matrix-on, size-push, member-next, edge-next, turn, turn_more, entry-is, some-more, some-iff, if-ok}
+use Rattle.std.proofs.Common.{◌+◌, ◌*◌, ◌||◌, ◌&&◌, ◌∙◌, length, arith, ap}
+use Rattle.gate_net.specs.Net.{node_value}
+use Rattle.gate_net.proofs.Growth.{grows_chain, continues-then}
+use Rattle.relation_gates.specs.Relations.{member}
+use Rattle.relation_gates.proofs.Rows.{nodes-push, size-push, member-next}
 use Rattle.relation_gates.proofs.paths.row_by_way_of.Goals as goal
 
 pub loop-z-preserved : goal.loop-z-preserved

@@ -1,9 +1,9 @@
-use Rattle.std.proofs.Common.{◌≡◌, ◌<◌, ◌≤◌, ◌+◌, ◌*◌, ◌++◌, ◌∷◌, [], ◌||◌, ◌&&◌, ◌∙◌, length, get_or, arith, sym, ap, subst, refl}
-use Rattle.gate_net.specs.Net.{Grows, IsNode, node_value}
-use Rattle.gate_net.proofs.Growth.{grows_chain, grows-within, continues-then, continues-same}
-use Rattle.relation_gates.specs.Relations.{member, edge, IsRow, IsMatrix}
-use Rattle.relation_gates.specs.Sets.{combined, some_below}
-use Rattle.relation_gates.proofs.Rows.{RowAt, row-at, nodes-push, rows-push, matrix-on, size-push, member-next, edge-next, turn, turn_more, entry-is, some-more, some-iff, if-ok}
+use Rattle.std.proofs.Common.{◌+◌, ◌*◌, ◌&&◌, length, arith}
+use Rattle.gate_net.specs.Net.{node_value}
+use Rattle.gate_net.proofs.Growth.{grows_chain, continues-then}
+use Rattle.relation_gates.specs.Relations.{member, edge}
+use Rattle.relation_gates.specs.Sets.{some_below}
+use Rattle.relation_gates.proofs.Rows.{nodes-push, size-push, member-next, turn_more}
 use Rattle.relation_gates.proofs.product.image_row.Goals as goal
 
 pub loop-y-preserved : goal.loop-y-preserved

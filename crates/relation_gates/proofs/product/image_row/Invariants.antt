@@ -1,8 +1,7 @@
-use Rattle.std.proofs.Common.{◌≡◌, ◌<◌, ◌*◌, ◌||◌, ◌&&◌, ◌↔◌, ℕ, length, take}
-use Rattle.std.specs.Prelude.{IsTrue}
+use Rattle.std.proofs.Common.{◌≡◌, ◌<◌, ◌*◌, ◌&&◌, ℕ, length}
 use Rattle.std.specs.List.{All}
 use Rattle.gate_net.specs.Net.{Always, Grows, IsNode}
-use Rattle.relation_gates.specs.Relations.{member, edge, IsRow, IsMatrix, IsPath}
+use Rattle.relation_gates.specs.Relations.{member, edge}
 use Rattle.relation_gates.specs.Sets.{some_below}
 use Rattle.relation_gates.proofs.product.image_row.Given as goal
 

@@ -1,9 +1,9 @@
-use Rattle.std.proofs.Common.{◌≡◌, ◌<◌, ◌≤◌, ◌+◌, ◌*◌, ◌++◌, ◌∷◌, [], ◌||◌, ◌&&◌, ◌∙◌, length, get_or, arith, sym, ap, subst, refl}
-use Rattle.gate_net.specs.Net.{Grows, IsNode, node_value}
-use Rattle.gate_net.proofs.Growth.{grows_chain, grows-within, continues-then, continues-same}
-use Rattle.relation_gates.specs.Relations.{member, edge, IsRow, IsMatrix}
-use Rattle.relation_gates.specs.Sets.{combined, some_below}
-use Rattle.relation_gates.proofs.Rows.{RowAt, row-at, nodes-push, rows-push, matrix-on, size-push, member-next, edge-next, turn, turn_more, entry-is, some-more, some-iff, if-ok}
+use Rattle.std.proofs.Common.{◌≡◌, ◌<◌, ◌+◌, ◌*◌, ◌∙◌, length, arith, sym, ap, subst}
+use Rattle.gate_net.specs.Net.{Grows, node_value}
+use Rattle.gate_net.proofs.Growth.{grows_chain, continues-then}
+use Rattle.relation_gates.specs.Relations.{member, edge, IsRow}
+use Rattle.relation_gates.specs.Sets.{combined}
+use Rattle.relation_gates.proofs.Rows.{row-at, rows-push, size-push, edge-next, turn_more}
 use Rattle.relation_gates.proofs.sets.combine.Goals as goal
 
 pub loop-x-preserved : goal.loop-x-preserved

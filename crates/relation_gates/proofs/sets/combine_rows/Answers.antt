@@ -1,4 +1,4 @@
-use Rattle.std.proofs.Common.{◌≡◌, ◌<◌, ◌+◌, ◌*◌, ◌++◌, ◌∷◌, [], length, arith}
+use Rattle.std.proofs.Common.{◌+◌, ◌*◌, arith}
 use Rattle.gate_net.specs.Net.{node_value}
 use Rattle.gate_net.proofs.Growth.{grows_chain, continues-then}
 use Rattle.relation_gates.specs.Relations.{member}

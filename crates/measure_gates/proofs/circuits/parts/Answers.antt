@@ -1,0 +1,39 @@
+use Rattle.std.proofs.Common.{ℕ, ◌≡◌, ◌+◌, ◌*◌, [], ◌∷◌, ◌++◌, ◌∙◌, length, ap, sym, subst, arith, rules}
+use Rattle.std.specs.List.{All}
+use Rattle.std.proofs.lemmas.List.{length_push}
+use Rattle.std.proofs.lemmas.List.Elements.{All-push, All-same, All-weaker}
+use Rattle.gate_net.specs.Net.{IsNode}
+use Rattle.gate_net.specs.declared.node.Node.{Node}
+use Rattle.bit_gates.specs.declared.bits.Bits.{Bits}
+use Rattle.gate_net.proofs.Growth.{stays}
+use Rattle.bit_gates.specs.Whole.{width_of}
+use Rattle.bit_gates.specs.Bits.{IsBits}
+use Rattle.bit_gates.specs.Totals.{IsPart, bounds, widths}
+use Rattle.bit_gates.proofs.Sums.{bits-on, bounds-push, widths-push}
+use Rattle.measure_gates.proofs.circuits.parts.Goals as goal
+
+more : (w i : ℕ) → w * (i + 1) ≡ w * i + w
+more w i = grind arith
+
+pub loop-preserved : goal.loop-preserved
+loop-preserved c =
+    let i = c.loop.counter in
+    let made = c.input.new.net in
+    let after = c.constant.new.net in
+    let same : after ≡ made = c.constant.ensures.grows in
+    let done = c.loop.parts.items in
+    let number = c.in_ok-number.number in
+    let part : Node × Bits = (c.in_ok-counts.counts, number) in
+    let pushed : c.push.new.self.items ≡ done ++ part ∷ [] = c.in_ok-push.ensures.items in
+    let most : number.most ≡ 2147483647 = c.in_ok-number.ensures.most in
+    let size : length number.nodes.items ≡ width_of 2147483647 = c.in_ok-number.ensures.bits.width ∙ ap width_of most in
+    let kept : All (IsPart made) done = All-weaker (IsPart c.loop.net) (IsPart made) (λ p h. (stays c.loop.net made p.0 c.input.ensures.begins h.0, bits-on c.loop.net made p.1 c.input.ensures.begins h.1)) done c.loop.invariant.parts in
+    record {
+      nodes = omega (arith, ap length same, c.in_ok-counts.ensures.nodes, c.loop.invariant.nodes);
+      count = omega (arith, ap length pushed, length_push done part, c.loop.invariant.count);
+      parts = All-same (IsPart after) c.push.new.self.items (done ++ part ∷ []) pushed (All-push (IsPart after) done part
+          (subst (λ net. All (IsPart net) done) (sym same) kept)
+          (subst (λ net. IsNode net part.0) (sym same) c.in_ok-counts.ensures.node, c.in_ok-number.ensures.bits));
+      bounds = omega (arith, ap bounds pushed, bounds-push done part, most, c.loop.invariant.bounds);
+      widths = omega (arith, ap widths pushed, widths-push done part, size, c.loop.invariant.widths, more (width_of 2147483647) i);
+    }

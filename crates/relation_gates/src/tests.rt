@@ -1,0 +1,237 @@
+//! Each call against a plain computation, over relations whose pairs are inputs of the net.
+
+mod plain;
+
+ghost use Rattle.std.specs.Prelude.{◌≡◌, ◌<◌, ◌≤◌, ◌+◌, ◌*◌, ◌^◌, IfOk, OnOk, length};
+ghost use Rattle.gate_net.specs.Net.{IsNode, Continues, nodes_of, inputs_of};
+ghost use Rattle.relation_gates.specs.Relations.{IsMatrix, IsRow};
+
+use crate::{Matrix, Row};
+use gate_net::{Net, Node};
+use plain::{Call, OBJECTS, SetCall, expected, expected_set, random};
+use std::alloc::{AllocError, Global};
+use std::process::Abort;
+use std::test::Fail;
+
+const CALLS: [Call; 6] = [
+    Call::Union,
+    Call::Inter,
+    Call::Minus,
+    Call::Join,
+    Call::Converse,
+    Call::Closure,
+];
+
+const SET_CALLS: [SetCall; 4] = [
+    SetCall::Union,
+    SetCall::Inter,
+    SetCall::Minus,
+    SetCall::Image,
+];
+
+// An input with a value, which is put behind those of the earlier inputs.
+fn input(net: &mut Net, inputs: &mut Vec<bool>, value: bool) -> Result<Node, AllocError>
+    requires room { nodes_of net.old < 2 ^ 28 }
+    requires given { length inputs.old.items ≡ inputs_of net.old }
+    ensures begins { Continues net.old net.new }
+    ensures node { IfOk result (λ n. IsNode net.new n) }
+    ensures nodes { OnOk result (nodes_of net.new ≡ nodes_of net.old + 1) }
+    ensures given { OnOk result (length inputs.new.items ≡ inputs_of net.new) }
+{
+    let node = net.input()?;
+    inputs.push(value)?;
+    Ok(node)
+}
+
+// A set whose members are inputs.
+fn set(
+    net: &mut Net,
+    inputs: &mut Vec<bool>,
+    members: u16,
+    objects: usize,
+) -> Result<Row, AllocError>
+    requires objects { objects ≤ 12 }
+    requires room { nodes_of net.old + 12 ≤ 2 ^ 28 }
+    requires given { length inputs.old.items ≡ inputs_of net.old }
+    ensures begins { Continues net.old net.new }
+    ensures row { IfOk result (λ row. IsRow net.new objects row) }
+    ensures nodes { OnOk result (nodes_of net.new ≤ nodes_of net.old + 12) }
+    ensures given { OnOk result (length inputs.new.items ≡ inputs_of net.new) }
+{
+    let mut nodes = Vec::new(net.allocator());
+    for y in 0..objects {
+        let node = input(net, inputs, members >> y & 1 == 1)?;
+        nodes.push(node)?;
+    }
+    Ok(Row { nodes })
+}
+
+// A relation whose pairs are inputs.
+fn relation(
+    net: &mut Net,
+    inputs: &mut Vec<bool>,
+    rows: &[u16; OBJECTS],
+    objects: usize,
+) -> Result<Matrix, AllocError>
+    requires objects { objects ≤ 12 }
+    requires room { nodes_of net.old + 144 ≤ 2 ^ 28 }
+    requires given { length inputs.old.items ≡ inputs_of net.old }
+    ensures begins { Continues net.old net.new }
+    ensures matrix { IfOk result (λ matrix. IsMatrix net.new objects matrix) }
+    ensures nodes { OnOk result (nodes_of net.new ≤ nodes_of net.old + 144) }
+    ensures given { OnOk result (length inputs.new.items ≡ inputs_of net.new) }
+{
+    let mut made = Vec::new(net.allocator());
+    for x in 0..objects {
+        let row = set(net, inputs, rows[x], objects)?;
+        made.push(row)?;
+    }
+    Ok(Matrix { rows: made })
+}
+
+// What a call makes of two relations.
+fn made(net: &mut Net, call: Call, a: &Matrix, b: &Matrix) -> Result<Matrix, AllocError>
+    requires first { IsMatrix net.old (length a.now) a.now }
+    requires second { IsMatrix net.old (length a.now) b.now }
+    requires small { length a.now ≤ 12 }
+    requires room { nodes_of net.old ≤ 1000 }
+    ensures inputs { inputs_of net.new ≡ inputs_of net.old }
+    ensures matrix { IfOk result (λ matrix. IsMatrix net.new (length a.now) matrix) }
+{
+    match call {
+        Call::Union => crate::union(net, a, b),
+        Call::Inter => crate::inter(net, a, b),
+        Call::Minus => crate::minus(net, a, b),
+        Call::Join => crate::join(net, a, b),
+        Call::Converse => crate::converse(net, a),
+        Call::Closure => crate::closure(net, a),
+    }
+}
+
+// What a call makes of two sets, or of a set and a relation.
+fn made_set(net: &mut Net, call: SetCall, a: &Row, b: &Row, r: &Matrix) -> Result<Row, AllocError>
+    requires first { IsRow net.old (length r.now) a.now }
+    requires second { IsRow net.old (length r.now) b.now }
+    requires relation { IsMatrix net.old (length r.now) r.now }
+    requires small { length r.now ≤ 12 }
+    requires room { nodes_of net.old ≤ 1000 }
+    ensures inputs { inputs_of net.new ≡ inputs_of net.old }
+    ensures row { IfOk result (λ row. IsRow net.new (length r.now) row) }
+{
+    match call {
+        SetCall::Union => crate::row_union(net, a, b),
+        SetCall::Inter => crate::row_inter(net, a, b),
+        SetCall::Minus => crate::row_minus(net, a, b),
+        SetCall::Image => crate::image(net, a, r),
+    }
+}
+
+// The members of a set are those that are expected.
+fn check_members(
+    rt: &impl Abort,
+    net: &Net,
+    row: &Row,
+    inputs: &[bool],
+    members: u16,
+) -> Result<(), Fail>
+    requires small { length row.now ≤ 12 }
+    requires row { IsRow net.now (length row.now) row.now }
+    requires given { length inputs.now ≡ inputs_of net.now }
+{
+    let nodes = row.nodes();
+    for y in 0..nodes.len() {
+        assert_eq!(rt;
+            net.value(nodes[y], inputs)?,
+            members >> y & 1 == 1,
+            "object {y}"
+        );
+    }
+    Ok(())
+}
+
+// A call makes the relation of these rows.
+fn check(
+    rt: &impl Abort,
+    alloc: Global,
+    call: Call,
+    first: &[u16; OBJECTS],
+    second: &[u16; OBJECTS],
+    objects: usize,
+    rows: &[u16; OBJECTS],
+) -> Result<(), Fail>
+    requires { objects ≤ 12 }
+{
+    let mut net = Net::new(alloc)?;
+    let mut inputs = Vec::new(alloc);
+    let a = relation(&mut net, &mut inputs, first, objects)?;
+    let b = relation(&mut net, &mut inputs, second, objects)?;
+    let result = made(&mut net, call, &a, &b)?;
+    let found = result.rows();
+    for x in 0..found.len() {
+        check_members(rt, &net, &found[x], inputs.as_slice(), rows[x])?;
+    }
+    Ok(())
+}
+
+// A call makes the set of these members.
+fn check_set(
+    rt: &impl Abort,
+    alloc: Global,
+    call: SetCall,
+    rows: &[u16; OBJECTS],
+    objects: usize,
+) -> Result<(), Fail>
+    requires { objects ≤ 12 }
+{
+    let (first, second) = (rows[0], rows[objects % OBJECTS]);
+    let mut net = Net::new(alloc)?;
+    let mut inputs = Vec::new(alloc);
+    let r = relation(&mut net, &mut inputs, rows, objects)?;
+    let a = set(&mut net, &mut inputs, first, objects)?;
+    let b = set(&mut net, &mut inputs, second, objects)?;
+    let result = made_set(&mut net, call, &a, &b, &r)?;
+    let members = expected_set(call, first, second, rows);
+    check_members(rt, &net, &result, inputs.as_slice(), members)
+}
+
+#[test]
+fn agrees_with_a_plain_computation(rt: HostRuntime) -> Result<(), Fail> {
+    for seed in 0..40 {
+        let objects = 1 + seed as usize % OBJECTS;
+        let first = random(seed, objects);
+        let second = random(seed + 1000, objects);
+        for call in CALLS {
+            check(
+                &rt,
+                rt.alloc(),
+                call,
+                &first,
+                &second,
+                objects,
+                &expected(call, &first, &second),
+            )?;
+        }
+        for call in SET_CALLS {
+            check_set(&rt, rt.alloc(), call, &first, objects)?;
+        }
+    }
+    Ok(())
+}
+
+// A chain of two edges, and a circle of 12.
+#[test]
+fn paths_are_of_any_length(rt: HostRuntime) -> Result<(), Fail> {
+    let chain = [0b010, 0b100, 0, 0, 0, 0, 0, 0, 0, 0, 0, 0];
+    let paths = [0b110, 0b100, 0, 0, 0, 0, 0, 0, 0, 0, 0, 0];
+    check(&rt, rt.alloc(), Call::Closure, &chain, &chain, 3, &paths)?;
+    let circle = [2, 4, 8, 16, 32, 64, 128, 256, 512, 1024, 2048, 1];
+    check(
+        &rt,
+        rt.alloc(),
+        Call::Closure,
+        &circle,
+        &circle,
+        12,
+        &[4095; OBJECTS],
+    )
+}

@@ -12,7 +12,9 @@ use Rattle.class_table.specs.declared.declaration.Declaration.{Declaration}
 use Rattle.class_table.specs.Names.{Name, class_names}
 use Rattle.class_table.specs.BuiltIn.{built_in}
 use Rattle.class_table.specs.Declarations.{declared_of, declarations}
-use Rattle.class_table.specs.Ancestors.{IsKnown, parents_of}
+use Rattle.class_table.specs.Ancestors.{AllEnd, IsKnown, parents_of}
+use Rattle.class_table.specs.TableFacts.{IsTable}
+use Rattle.class_table.proofs.TableLemmas.{table_facts}
 use Rattle.class_table.specs.Faults.{Blames, Clear, InSome, OfRule}
 use Rattle.class_table.specs.Rules.{rule_2, rule_3, rule_4, rule_5, rule_6, rule_8, rule_9, Breaks, IndexFault, MemberFault, ClassesFault, RowsFault, NamesFault, ClassFault, OwnAncestor, FieldAgain, FieldHidden, CalledAlike, SameArity, OverridesWrongly, NoMain, TooManyFields}
 
@@ -245,15 +247,13 @@ table_is tree classes all some rows is a s r =
     let two : rows ≡ rows_from (declared_of tree.classes) 0 (declared_of tree.classes) = one ∙ ap (λ ds'. rows_from ds' 0 ds') ds in
     rw two refl
 
-rows_length : (all some : List Declaration) (n : ℕ) → length (rows_from all n some) ≡ length some
-rows_length all [] n = refl
-rows_length all (d ∷ more) n = let e = rows_length all more (n + 1) in omega arith
+pub table_keeps : (classes : List ClassTree) (names : List Name) (all some : List Declaration) (rows : List ClassRow) → all ≡ declared_of classes → some ≡ all → length classes ≤ 1000 → AllEnd (parents_of (declared_of classes)) → Clear (RowsFault names all some) → rows ≡ rows_from all 0 some → IsTable (record { classes = rows })
+table_keeps classes names all some rows a s few ends clear r =
+    let ds : some ≡ declared_of classes = s ∙ a in
+    let one : Clear (RowsFault names (declared_of classes) some) = subst (λ xs. Clear (RowsFault names xs some)) a clear in
+    let two : Clear (RowsFault names (declared_of classes) (declared_of classes)) = subst (λ xs. Clear (RowsFault names (declared_of classes) xs)) ds one in
+    let counts : Clear (InSome (declared_of classes) (λ number d. OfRule 9 (TooManyFields (declared_of classes) number d))) = record { none = λ f h. two.none f (inr h) } in
+    let rows_are : rows ≡ rows_from (declared_of classes) 0 (declared_of classes) = r ∙ ap (λ xs. rows_from xs 0 some) a ∙ ap (rows_from (declared_of classes) 0) ds in
+    rw rows_are (table_facts classes few ends counts)
 
-pub table_few : (classes : List ClassTree) (all some : List Declaration) (rows : List ClassRow) → all ≡ declared_of classes → some ≡ all → length classes ≤ 1000 → rows ≡ rows_from all 0 some → length rows ≤ 1018
-table_few classes all some rows a s few r =
-    let one : length rows ≡ length some = rw r (rows_length all some 0) in
-    let two : length some ≡ length all = ap length s in
-    let three : length all ≤ 1018 = few_declared classes all a few in
-    omega arith
-
-pub ruleset table_found = (table_first, table_then, table_clear, table_is, table_few, names_fit)
+pub ruleset table_found = (table_first, table_then, table_clear, table_is, table_keeps, names_fit)

@@ -1,5 +1,5 @@
 -- Lemmas on what holds of the elements of a list.
-use Rattle.std.proofs.Common.{◌≡◌, ◌+◌, ◌<◌, ◌≤◌, ◌⊎◌, ℕ, List, length, Some, None, arith, sym, ◌∙◌, subst, refl, ap, inl, inr, Bool, true, false, not, ◌||◌, [], ◌∷◌, map, take, ◌++◌, get_or, Result, Ok, Err, OnOk}
+use Rattle.std.proofs.Common.{◌≡◌, ◌+◌, ◌<◌, ◌≤◌, ◌⊎◌, ℕ, List, length, Some, None, arith, sym, ◌∙◌, subst, refl, ap, inl, inr, Bool, true, false, not, ◌||◌, [], ◌∷◌, map, take, ◌++◌, get_or, Result, Ok, Err, OnOk, IfErr}
 use Rattle.std.specs.List.{slice_get, list_any}
 use Rattle.std.proofs.lemmas.List.{take_more}
 use borrow.Author.Count.{below_more}
@@ -88,3 +88,8 @@ or_right false b e = e
 pub on_ok : {A E : Type 0} (r : Result A E) (P Q : Type 0) → OnOk r P → (P → Q) → OnOk r Q
 on_ok (Ok v) P Q h more = more h
 on_ok (Err e) P Q h more = h
+
+-- what follows from what is said of an Err
+pub if_err : {A E : Type 0} (r : Result A E) (P Q : E → Type 0) → IfErr r P → ((e : E) → P e → Q e) → IfErr r Q
+if_err (Ok v) P Q h more = h
+if_err (Err e) P Q h more = more e h

@@ -7,3 +7,5 @@ pub mod MethodLemmas
 pub mod RowLemmas
 pub mod KnownLemmas
 pub mod CheckLemmas
+pub mod OverridingLemmas
+pub mod TableLemmas

@@ -19,19 +19,25 @@ climb_suc : (ps : List (Option ℕ)) (k n : ℕ) → climb ps (suc k) (Some n) �
 unfolding climb
 climb_suc ps k n = refl
 
--- a line begins with its class
-pub line_opens : (declared : List Declaration) (n : ℕ) (d : Declaration) → slice_get declared n ≡ Some d → line_at declared n ≡ n ∷ superclasses declared n
-line_opens declared n d found =
+-- a line begins with its class, and the way up from its superclass follows
+pub line_climbs : (declared : List Declaration) (n : ℕ) (d : Declaration) → slice_get declared n ≡ Some d → line_at declared n ≡ n ∷ climb (parents_of declared) (length (parents_of declared) - 1) (parent_in (parents_of declared) n)
+line_climbs declared n d found =
     let ps : List (Option ℕ) = parents_of declared in
     let within : n < length declared = slice_get_within declared n d found in
     let size : length ps ≡ length declared = length-map declared (λ e. e.parent) in
     let some : length ps ≡ suc (length ps - 1) = omega arith in
     let whole : line_of ps n ≡ n ∷ climb ps (length ps - 1) (parent_in ps n) = ap (λ m. climb ps m (Some n)) some ∙ climb_suc ps (length ps - 1) n in
     let is : line_at declared n ≡ line_of ps n = rw found refl in
-    let e : line_at declared n ≡ n ∷ climb ps (length ps - 1) (parent_in ps n) = is ∙ whole in
-    e ∙ ap (λ xs. n ∷ xs) (sym (ap (drop 1) e))
+    is ∙ whole
 
-total_cons : (declared : List Declaration) (n : ℕ) (line : List ℕ) → instance_total declared (n ∷ line) ≡ instance_count declared n + instance_total declared line
+pub superclasses_are : (declared : List Declaration) (n : ℕ) (d : Declaration) → slice_get declared n ≡ Some d → superclasses declared n ≡ climb (parents_of declared) (length (parents_of declared) - 1) (parent_in (parents_of declared) n)
+superclasses_are declared n d found = ap (drop 1) (line_climbs declared n d found)
+
+-- a line begins with its class
+pub line_opens : (declared : List Declaration) (n : ℕ) (d : Declaration) → slice_get declared n ≡ Some d → line_at declared n ≡ n ∷ superclasses declared n
+line_opens declared n d found = line_climbs declared n d found ∙ ap (λ xs. n ∷ xs) (sym (superclasses_are declared n d found))
+
+pub total_cons : (declared : List Declaration) (n : ℕ) (line : List ℕ) → instance_total declared (n ∷ line) ≡ instance_count declared n + instance_total declared line
 total_cons declared n line = sum_by-cons (instance_count declared) n line
 
 pub line_total : (declared : List Declaration) (n : ℕ) (d : Declaration) → slice_get declared n ≡ Some d → instance_total declared (line_at declared n) ≡ length (filter is_instance d.fields) + instance_total declared (superclasses declared n)

@@ -8,4 +8,6 @@ pub mod Faults
 pub mod Lines
 pub mod Index
 pub mod Rules
+pub mod Nearest
 pub mod Table
+pub mod TableFacts

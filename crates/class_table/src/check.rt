@@ -1,7 +1,7 @@
 //! The public call: the rules in turn, and then the rows.
 
 ghost use Rattle.std.specs.Prelude.{◌≡◌, ◌<◌, ◌^◌, ◌≤◌, length, IfOk, IfErr, OnOk};
-ghost use Rattle.class_table.specs.Ancestors.{IsKnown, parents_of};
+ghost use Rattle.class_table.specs.Ancestors.{AllEnd, IsKnown, parents_of};
 ghost use Rattle.class_table.specs.Faults.{Blames, Clear};
 ghost use Rattle.class_table.specs.Declarations.{declared_of};
 ghost use Rattle.class_table.specs.Names.{class_names};
@@ -9,6 +9,7 @@ ghost use Rattle.class_table.specs.Lines.{lines_of};
 ghost use Rattle.class_table.specs.Index.{IsIndex, counts_of, field_names_of, signatures_of};
 ghost use Rattle.class_table.specs.Rules.{Breaks, ClassesFault, IndexFault, MemberFault, RowsFault};
 ghost use Rattle.class_table.specs.Table.{rows_from, table_of};
+ghost use Rattle.class_table.specs.TableFacts.{IsTable};
 
 use crate::built_in::built_in;
 use crate::declaration::Declaration;
@@ -37,6 +38,7 @@ fn lookups(alloc: Global, classes: &[Declaration]) -> Result<Lookups, CheckError
     ensures fields { IfOk result (λ l. l.fields ≡ field_names_of classes.now) }
     ensures methods { IfOk result (λ l. l.methods ≡ signatures_of classes.now) }
     ensures counts { IfOk result (λ l. l.counts ≡ counts_of classes.now) }
+    ensures ends { OnOk result (AllEnd (parents_of classes.now)) }
     ensures fault { IfErr result (Blames (IndexFault classes.now)) }
     ensures clear { OnOk result (Clear (IndexFault classes.now)) }
 {
@@ -59,6 +61,7 @@ fn make_index(
     ensures names { IfOk result (λ index. index.names ≡ names) }
     ensures declared { IfOk result (λ index. index.declared ≡ declared) }
     ensures index { IfOk result IsIndex }
+    ensures ends { OnOk result (AllEnd (parents_of declared)) }
     ensures fault { IfErr result (Blames (IndexFault declared)) }
     ensures clear { OnOk result (Clear (IndexFault declared)) }
 {
@@ -80,6 +83,7 @@ fn classes_of(alloc: Global, classes: &[ClassTree]) -> Result<Index, CheckError>
     ensures declared { IfOk result (λ index. index.declared ≡ declared_of classes.now) }
     ensures index { IfOk result IsIndex }
     ensures few { OnOk result (length classes.now ≤ 1000) }
+    ensures ends { OnOk result (AllEnd (parents_of (declared_of classes.now))) }
     ensures fault { IfErr result (Blames (ClassesFault classes.now)) }
     ensures clear { OnOk result (Clear (ClassesFault classes.now)) }
 {
@@ -95,6 +99,8 @@ fn classes_of(alloc: Global, classes: &[ClassTree]) -> Result<Index, CheckError>
 fn check_members(alloc: Global, index: &Index, declared: &[Declaration]) -> Result<(), CheckError>
     requires index { IsIndex index.now }
     requires few { length index.now.names < 2 ^ 32 }
+    requires same { declared.now ≡ index.now.declared }
+    requires ends { AllEnd (parents_of index.now.declared) }
     ensures fault { IfErr result (Blames (MemberFault index.now.names index.now.declared declared.now)) }
     ensures clear { OnOk result (Clear (MemberFault index.now.names index.now.declared declared.now)) }
 {
@@ -114,6 +120,7 @@ fn rows_of(
     requires index { IsIndex index.now }
     requires few { length index.now.names < 2 ^ 32 }
     requires same { declared.now ≡ index.now.declared }
+    requires ends { AllEnd (parents_of index.now.declared) }
     ensures rows { IfOk result (λ rows. rows ≡ rows_from index.now.declared 0 declared.now) }
     ensures fault { IfErr result (Blames (RowsFault index.now.names index.now.declared declared.now)) }
     ensures clear { OnOk result (Clear (RowsFault index.now.names index.now.declared declared.now)) }
@@ -130,7 +137,7 @@ fn rows_of(
 #[tactic(auto, using(crate::proofs::CheckLemmas::table_found))]
 pub fn table(alloc: Global, tree: &FileTree) -> Result<ClassTable, CheckError>
     ensures table { IfOk result (λ table. table ≡ table_of tree.now) }
-    ensures few { IfOk result (λ table. length table.classes ≤ 1018) }
+    ensures facts { IfOk result IsTable }
     ensures fault { IfErr result (Blames (Breaks tree.now)) }
     ensures accepted { OnOk result (Clear (Breaks tree.now)) }
 {

@@ -7,6 +7,9 @@ ghost use Rattle.class_table.specs.Ancestors as ancestors;
 ghost use Rattle.class_table.specs.Faults.{Blames, Clear, InSome, OfRule};
 ghost use Rattle.class_table.specs.Index.{IsIndex, same_signature, signature_of};
 ghost use Rattle.class_table.specs.Members as member;
+ghost use Rattle.class_table.specs.Ancestors.{superclasses};
+ghost use Rattle.class_table.specs.Nearest.{NearestWrong, first_called};
+ghost use Rattle.class_table.specs.Nearest as spec;
 ghost use Rattle.class_table.specs.Rules.{OverridesWrongly};
 ghost use Rattle.class_table.specs.Rules as rule;
 
@@ -184,60 +187,64 @@ fn method_at<'a>(index: &'a Index, class: u32, key: &Signature) -> Option<&'a Me
     }
 }
 
-/// Whether a class declares a method with that signature that `method` may not override.
-fn is_wrong_over(index: &Index, method: &MethodRow, key: &Signature, class: u32) -> bool
+/// The method that the first of some classes that has one declares with that signature.
+fn first_at<'a>(index: &'a Index, mut classes: &[u32], key: &Signature) -> Option<&'a MethodRow>
+    requires { IsIndex index.now }
+    ensures { option_copied result ≡ first_called index.now.declared key.now classes.entry.now }
+{
+    while let [class, more @ ..] = classes {
+        if let Some(found) = method_at(index, *class, key) {
+            return Some(found);
+        }
+        classes = more;
+    }
+    None
+}
+
+/// The nearest method above a class with that signature.
+#[tactic(auto, using(crate::proofs::IndexLemmas::superclasses_at))]
+fn nearest<'a>(index: &'a Index, class: usize, key: &Signature) -> Option<&'a MethodRow>
+    requires { IsIndex index.now }
+    ensures { option_copied result ≡ first_called index.now.declared key.now (superclasses index.now.declared class) }
+{
+    first_at(index, above(index.lines.as_slice(), class), key)
+}
+
+/// Whether a method of a class may override the nearest method above.
+fn fits_nearest(index: &Index, class: usize, method: &MethodRow, key: &Signature) -> bool
     requires index { IsIndex index.now }
     requires few { length index.now.names < 2 ^ 32 }
     requires key { key.now ≡ signature_of method.now }
-    ensures { result ≡ rule.is_wrong_over index.now.names index.now.declared method.now class }
+    ensures { result ≡ spec.fits_nearest index.now.names index.now.declared class method.now }
 {
-    match method_at(index, class, key) {
-        Some(other) => !may_override(index, method, other),
-        None => false,
+    match nearest(index, class, key) {
+        Some(other) => may_override(index, method, other),
+        None => true,
     }
 }
 
-fn any_wrong_over(index: &Index, method: &MethodRow, key: &Signature, classes: &[u32]) -> bool
-    requires index { IsIndex index.now }
-    requires few { length index.now.names < 2 ^ 32 }
-    requires key { key.now ≡ signature_of method.now }
-    ensures { result ≡ list_any (rule.is_wrong_over index.now.names index.now.declared method.now) classes.now }
-{
-    classes
-        .iter()
-        .any(|class| is_wrong_over(index, method, key, *class))
-}
-
-/// Whether a superclass of a class declares a method that `method` may not override.
-fn overrides_wrongly(index: &Index, class: usize, method: &MethodRow, key: &Signature) -> bool
-    requires index { IsIndex index.now }
-    requires few { length index.now.names < 2 ^ 32 }
-    requires key { key.now ≡ signature_of method.now }
-    ensures { result ≡ list_any (rule.is_wrong_over index.now.names index.now.declared method.now) (ancestors.superclasses index.now.declared class) }
-{
-    any_wrong_over(index, method, key, above(index.lines.as_slice(), class))
-}
-
-/// Sees that a method may override those of the superclasses of its class.
+/// Sees that a method of a class may override the nearest method above.
 fn check_method(index: &Index, class: usize, method: &MethodRow) -> Result<(), CheckError>
     requires index { IsIndex index.now }
     requires few { length index.now.names < 2 ^ 32 }
-    ensures fault { IfErr result (Blames (OfRule 6 (OverridesWrongly index.now.names index.now.declared class method.now))) }
-    ensures clear { OnOk result (Clear (OfRule 6 (OverridesWrongly index.now.names index.now.declared class method.now))) }
+    ensures fault { IfErr result (Blames (OfRule 6 (NearestWrong index.now.names index.now.declared class method.now))) }
+    ensures clear { OnOk result (Clear (OfRule 6 (NearestWrong index.now.names index.now.declared class method.now))) }
 {
     let key = signature(method)?;
-    if overrides_wrongly(index, class, method, &key) {
-        return Err(fault(6, method.at));
+    if fits_nearest(index, class, method, &key) {
+        Ok(())
+    } else {
+        Err(fault(6, method.at))
     }
-    Ok(())
 }
 
+/// Sees that each method of a class may override the nearest method above.
 #[tactic(auto, using(crate::proofs::Faults::loops))]
 fn check_class(index: &Index, class: usize, methods: &[MethodRow]) -> Result<(), CheckError>
     requires index { IsIndex index.now }
     requires few { length index.now.names < 2 ^ 32 }
-    ensures fault { IfErr result (Blames (InSome methods.now (λ place m. OfRule 6 (OverridesWrongly index.now.names index.now.declared class m)))) }
-    ensures clear { OnOk result (Clear (InSome methods.now (λ place m. OfRule 6 (OverridesWrongly index.now.names index.now.declared class m)))) }
+    ensures fault { IfErr result (Blames (InSome methods.now (λ place m. OfRule 6 (NearestWrong index.now.names index.now.declared class m)))) }
+    ensures clear { OnOk result (Clear (InSome methods.now (λ place m. OfRule 6 (NearestWrong index.now.names index.now.declared class m)))) }
 {
     for method in methods {
         check_method(index, class, method)?;
@@ -245,13 +252,13 @@ fn check_class(index: &Index, class: usize, methods: &[MethodRow]) -> Result<(),
     Ok(())
 }
 
-/// Sees that each method may override those of the superclasses of its class.
+/// Sees that each method of each class may override the nearest method above.
 #[tactic(auto, using(crate::proofs::Faults::loops))]
-pub fn check_overriding(index: &Index, declared: &[Declaration]) -> Result<(), CheckError>
+fn check_nearest(index: &Index, declared: &[Declaration]) -> Result<(), CheckError>
     requires index { IsIndex index.now }
     requires few { length index.now.names < 2 ^ 32 }
-    ensures fault { IfErr result (Blames (InSome declared.now (λ number d. InSome d.methods (λ place m. OfRule 6 (OverridesWrongly index.now.names index.now.declared number m))))) }
-    ensures clear { OnOk result (Clear (InSome declared.now (λ number d. InSome d.methods (λ place m. OfRule 6 (OverridesWrongly index.now.names index.now.declared number m))))) }
+    ensures fault { IfErr result (Blames (InSome declared.now (λ number d. InSome d.methods (λ place m. OfRule 6 (NearestWrong index.now.names index.now.declared number m))))) }
+    ensures clear { OnOk result (Clear (InSome declared.now (λ number d. InSome d.methods (λ place m. OfRule 6 (NearestWrong index.now.names index.now.declared number m))))) }
 {
     let mut number = 0usize;
     for class in declared {
@@ -259,4 +266,17 @@ pub fn check_overriding(index: &Index, declared: &[Declaration]) -> Result<(), C
         number += 1;
     }
     Ok(())
+}
+
+/// Sees that each method may override those of all superclasses of its class. A method above has itself been compared
+/// with those above it, so the nearest is enough.
+pub fn check_overriding(index: &Index, declared: &[Declaration]) -> Result<(), CheckError>
+    requires index { IsIndex index.now }
+    requires few { length index.now.names < 2 ^ 32 }
+    requires same { declared.now ≡ index.now.declared }
+    requires ends { ancestors.AllEnd (ancestors.parents_of index.now.declared) }
+    ensures fault { IfErr result (Blames (InSome declared.now (λ number d. InSome d.methods (λ place m. OfRule 6 (OverridesWrongly index.now.names index.now.declared number m))))) }
+    ensures clear { OnOk result (Clear (InSome declared.now (λ number d. InSome d.methods (λ place m. OfRule 6 (OverridesWrongly index.now.names index.now.declared number m))))) }
+{
+    check_nearest(index, declared)
 }

@@ -1,17 +1,9 @@
-use Rattle.std.proofs.Common.{◌≡◌, ap, ◌+◌}
-use Rattle.class_table.proofs.Faults.{clear_step, clear_end}
+use Rattle.class_table.proofs.Faults.{if_err, on_ok}
+use Rattle.class_table.proofs.OverridingLemmas.{nearest_clear, nearest_fault}
 use Rattle.class_table.proofs.overriding.check_overriding.Goals as goal
 
-pub loop-class-preserved : goal.loop-class-preserved
-loop-class-preserved c =
-    let e : c.loop-class.number ≡ c.loop-class.class-index = c.loop-class.invariant.number in
-    let here = c.in_ok-check_class.ensures.clear in
-    let got = c.get.ensures in
-    let methods = c.as_slice.ensures in
-    record {
-      number = ap (λ n. n + 1) e;
-      clear = clear_step _ _ _ _ c.loop-class.invariant.clear c.loop-class-test.true c.class-item.is (rw (← got, ← methods, ← e) here);
-    }
+pub returns-clause-fault : goal.returns-clause-fault
+returns-clause-fault c = if_err c.check_nearest.result _ _ c.check_nearest.ensures.fault (nearest_fault c.args.index.now.names c.args.index.now.declared c.args.declared.now)
 
 pub returns-clause-clear : goal.returns-clause-clear
-returns-clause-clear c = clear_end _ _ c.loop-class.class-index c.loop-class-test.false c.loop-class.invariant.clear
+returns-clause-clear c = on_ok c.check_nearest.result _ _ c.check_nearest.ensures.clear (nearest_clear c.args.index.now.names c.args.index.now.declared c.args.declared.now c.requires.same c.requires.ends)

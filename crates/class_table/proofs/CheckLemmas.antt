@@ -1,5 +1,5 @@
 -- Lemmas that join what the parts of the check find.
-use Rattle.std.proofs.Common.{◌≡◌, ◌+◌, ◌<◌, ◌≤◌, ◌++◌, ◌∷◌, [], ℕ, List, length, ◌^◌, arith, ◌∙◌, refl, ap, subst, inl, inr}
+use Rattle.std.proofs.Common.{◌≡◌, ◌+◌, ◌<◌, ◌≤◌, ◌++◌, ℕ, List, length, ◌^◌, arith, ◌∙◌, refl, ap, subst, inl, inr}
 use Rattle.java_syntax.specs.declared.class.ClassTree.{ClassTree}
 use Rattle.java_syntax.specs.declared.class.FileTree.{FileTree}
 use Rattle.java_syntax.specs.declared.fault.Fault.{Fault}
@@ -240,20 +240,21 @@ table_clear tree classes names all some is n a s first h =
     let three : Clear (RowsFault (class_names tree.classes) (declared_of tree.classes) (declared_of tree.classes)) = subst (λ xs. Clear (RowsFault (class_names tree.classes) xs xs)) ds two in
     all_clear tree (subst (λ cs. Clear (ClassesFault cs)) is first) three
 
-pub table_is : (tree : FileTree) (classes : List ClassTree) (all some : List Declaration) (rows : List ClassRow) → classes ≡ tree.classes → all ≡ declared_of classes → some ≡ all → rows ≡ rows_from all 0 some → record { classes = rows } ≡ table_of tree
-table_is tree classes all some rows is a s r =
+pub table_is : (tree : FileTree) (classes : List ClassTree) (names : List Name) (all some : List Declaration) (rows : List ClassRow) → classes ≡ tree.classes → names ≡ class_names classes → all ≡ declared_of classes → some ≡ all → rows ≡ rows_from all 0 some → record { classes = rows; names = names } ≡ table_of tree
+table_is tree classes names all some rows is n a s r =
+    let ns : names ≡ class_names tree.classes = n ∙ ap class_names is in
     let ds : all ≡ declared_of tree.classes = a ∙ ap declared_of is in
     let one : rows ≡ rows_from all 0 all = r ∙ ap (rows_from all 0) s in
     let two : rows ≡ rows_from (declared_of tree.classes) 0 (declared_of tree.classes) = one ∙ ap (λ ds'. rows_from ds' 0 ds') ds in
-    rw two refl
+    rw (ns, two) refl
 
-pub table_keeps : (classes : List ClassTree) (names : List Name) (all some : List Declaration) (rows : List ClassRow) → all ≡ declared_of classes → some ≡ all → length classes ≤ 1000 → AllEnd (parents_of (declared_of classes)) → Clear (RowsFault names all some) → rows ≡ rows_from all 0 some → IsTable (record { classes = rows })
-table_keeps classes names all some rows a s few ends clear r =
+pub table_keeps : (classes : List ClassTree) (names : List Name) (all some : List Declaration) (rows : List ClassRow) → names ≡ class_names classes → all ≡ declared_of classes → some ≡ all → length classes ≤ 1000 → AllEnd (parents_of (declared_of classes)) → Clear (RowsFault names all some) → rows ≡ rows_from all 0 some → IsTable (record { classes = rows; names = names })
+table_keeps classes names all some rows n a s few ends clear r =
     let ds : some ≡ declared_of classes = s ∙ a in
     let one : Clear (RowsFault names (declared_of classes) some) = subst (λ xs. Clear (RowsFault names xs some)) a clear in
     let two : Clear (RowsFault names (declared_of classes) (declared_of classes)) = subst (λ xs. Clear (RowsFault names (declared_of classes) xs)) ds one in
     let counts : Clear (InSome (declared_of classes) (λ number d. OfRule 9 (TooManyFields (declared_of classes) number d))) = record { none = λ f h. two.none f (inr h) } in
     let rows_are : rows ≡ rows_from (declared_of classes) 0 (declared_of classes) = r ∙ ap (λ xs. rows_from xs 0 some) a ∙ ap (rows_from (declared_of classes) 0) ds in
-    rw rows_are (table_facts classes few ends counts)
+    rw (rows_are, n) (table_facts classes few ends counts)
 
-pub ruleset table_found = (table_first, table_then, table_clear, table_is, table_keeps, names_fit)
+pub ruleset table_found = (table_first, table_then, table_clear, table_is, names_fit)

@@ -1,5 +1,5 @@
 -- Where each method may override the nearest method above, it may override all above: what is asked is transitive.
-use Rattle.std.proofs.Common.{◌≡◌, ◌==◌, ◌+◌, ◌-◌, ◌<◌, ◌≤◌, ◌⊎◌, ℕ, zero, suc, List, [], ◌∷◌, length, find, Option, Some, None, option_and_then, Bool, true, false, not, cond, nat_eq, ◌&&◌, ◌||◌, arith, sym, ◌∙◌, refl, ap, subst, inl, inr}
+use Rattle.std.proofs.Common.{◌≡◌, ◌==◌, ◌+◌, ◌-◌, ◌<◌, ◌≤◌, ℕ, zero, suc, List, [], ◌∷◌, length, find, Option, Some, None, option_and_then, Bool, true, false, not, cond, nat_eq, ◌||◌, arith, sym, ◌∙◌, refl, ap, subst, inl, inr}
 use Rattle.std.specs.Bool.{beq}
 use Rattle.std.specs.Cmp.{booleans_Decides}
 use Rattle.std.specs.List.{slice_get, list_any, list_all, position_or_len}
@@ -19,7 +19,7 @@ use Rattle.class_table.specs.declared.row.MethodRow.{MethodRow}
 use Rattle.class_table.specs.declared.row.Signature.{Signature}
 use Rattle.class_table.specs.Names.{Name, same_name}
 use Rattle.class_table.specs.Members.{is_static, is_private, same_base, same_type, same_types, same_answer}
-use Rattle.class_table.specs.Ancestors.{AllEnd, climb, is_below, line_at, line_of, parent_in, parents_of, superclasses, up}
+use Rattle.class_table.specs.Ancestors.{AllEnd, climb, is_below, line_of, parent_in, parents_of, superclasses, up}
 use Rattle.class_table.specs.Faults.{Blames, Clear, InSome, OfRule}
 use Rattle.class_table.specs.Index.{signature_of, same_signature}
 use Rattle.class_table.specs.Rules.{OverridesWrongly, checked_number, is_allowed, is_wrong_over, may_override, method_called}

@@ -1,5 +1,5 @@
 -- What holds of a finished table.
-use Rattle.std.proofs.Common.{◌≡◌, ◌==◌, ◌+◌, ◌-◌, ◌<◌, ◌≤◌, ℕ, zero, suc, List, [], ◌∷◌, ◌++◌, append-nil, map, filter, flat_map, reverse, length, Option, Some, None, option_map, option_and_then, Bool, true, false, not, ◌&&◌, arith, sym, ◌∙◌, refl, ap, subst, inl, inr}
+use Rattle.std.proofs.Common.{◌≡◌, ◌==◌, ◌+◌, ◌-◌, ◌<◌, ◌≤◌, ℕ, zero, suc, List, [], ◌∷◌, ◌++◌, append-nil, map, filter, flat_map, reverse, length, Option, Some, None, option_map, option_and_then, Bool, true, false, ◌&&◌, arith, sym, ◌∙◌, refl, ap, subst, inl, inr}
 use Rattle.std.specs.List.{slice_get, list_all, range_with_len}
 use Rattle.std.specs.Option.{option_map_or}
 use Rattle.std.proofs.lemmas.Bool.{and_from, and_parts, cases_lt, eq-eqb}
@@ -8,14 +8,12 @@ use Rattle.std.proofs.lemmas.List.{length-append, length-map, map-append, revers
 use Rattle.std.proofs.lemmas.List.Elements.{filter-append}
 use Rattle.std.proofs.lemmas.Option.{slice_get-map, slice_get_within}
 use Rattle.java_syntax.specs.declared.class.ClassTree.{ClassTree}
-use Rattle.java_syntax.specs.declared.class.FileTree.{FileTree}
 use Rattle.java_syntax.specs.declared.class.Member.{Member}
 use Rattle.java_syntax.specs.declared.class.Member.TheVariants.{Field, Method, Maker, Empty}
 use Rattle.class_table.specs.declared.declaration.Declaration.{Declaration}
 use Rattle.class_table.specs.declared.row.ClassRow.{ClassRow}
-use Rattle.class_table.specs.declared.row.ClassTable.{ClassTable}
 use Rattle.class_table.specs.declared.row.FieldRow.{FieldRow}
-use Rattle.class_table.specs.Names.{Name, class_names}
+use Rattle.class_table.specs.Names.{Name, built_in_names, class_names}
 use Rattle.class_table.specs.Members.{fields_in, is_instance}
 use Rattle.class_table.specs.BuiltIn.{built_in}
 use Rattle.class_table.specs.Declarations.{declarations, declared_of}
@@ -23,11 +21,11 @@ use Rattle.class_table.specs.Ancestors.{AllEnd, IsKnown, climb, line_at, line_of
 use Rattle.class_table.specs.Faults.{Clear, InSome, OfRule}
 use Rattle.class_table.specs.Fields.{fields_along, fields_at, instance_count, instance_total, numbered, placed_at}
 use Rattle.class_table.specs.Rules.{TooManyFields}
-use Rattle.class_table.specs.Table.{row_of, rows_from, table_of}
+use Rattle.class_table.specs.Table.{row_of, rows_from}
 use Rattle.class_table.specs.TableFacts.{IsRow, IsTable, fields_above, line_above, places}
 use Rattle.class_table.proofs.AncestorLemmas.{climb_top}
 use Rattle.class_table.proofs.Faults.{not_absent}
-use Rattle.class_table.proofs.KnownLemmas.{declared_length, known_of}
+use Rattle.class_table.proofs.KnownLemmas.{known_of, names_length}
 use Rattle.class_table.proofs.RowLemmas.{line_climbs, total_cons}
 
 none_some : {A : Type 0} (x : A) → None ≡ Some x → ⊥
@@ -230,8 +228,8 @@ rows_length : (all declared : List Declaration) (n : ℕ) → length (rows_from 
 rows_length all [] n = refl
 rows_length all (d ∷ more) n = let e = rows_length all more (n + 1) in omega arith
 
-abbrev rows_table : List Declaration → ClassTable
-rows_table declared = record { classes = rows_from declared 0 declared }
+abbrev rows_table : List Declaration → List ClassRow
+rows_table declared = rows_from declared 0 declared
 
 row_is_at : (declared : List Declaration) (c : ℕ) → slice_get (rows_from declared 0 declared) c ≡ option_map (row_of declared c) (slice_get declared c)
 row_is_at declared c = let e : 0 + c ≡ c = omega arith in rows_from_at declared declared 0 c ∙ ap (λ n. option_map (row_of declared n) (slice_get declared c)) e
@@ -298,8 +296,32 @@ table_rows classes ends known clear c row found =
     ] in
     cases (slice_get declared c) refl (sym (row_is_at declared c) ∙ found)
 
-pub table_facts : (classes : List ClassTree) → length classes ≤ 1000 → AllEnd (parents_of (declared_of classes)) → Clear (InSome (declared_of classes) (λ number e. OfRule 9 (TooManyFields (declared_of classes) number e))) → IsTable (rows_table (declared_of classes))
+-- ---- names
+
+row_names : (all declared : List Declaration) (n : ℕ) → map (λ row. row.name) (rows_from all n declared) ≡ map (λ d. d.name) declared
+row_names all [] n = refl
+row_names all (d ∷ more) n = ap (λ xs. d.name ∷ xs) (row_names all more (n + 1))
+
+file_names : (names : List Name) (n : ℕ) (classes : List ClassTree) → map (λ d. d.name) (declarations names n classes) ≡ map (λ c. c.name.name) classes
+file_names names n [] = refl
+file_names names n (c ∷ more) = ap (λ xs. c.name.name ∷ xs) (file_names names (n + 1) more)
+
+built_names : map (λ (d : Declaration). d.name) built_in ≡ built_in_names
+unfolding built_in built_in_names
+built_names = refl
+
+declared_names : (classes : List ClassTree) → map (λ d. d.name) (declared_of classes) ≡ class_names classes
+unfolding declared_of
+declared_names classes =
+    map-append (λ (d : Declaration). d.name) built_in (declarations (class_names classes) 18 classes)
+    ∙ ap (λ xs. map (λ (d : Declaration). d.name) built_in ++ xs) (file_names (class_names classes) 18 classes)
+    ∙ ap (λ xs. xs ++ map (λ c. c.name.name) classes) built_names
+
+pub table_facts : (classes : List ClassTree) → length classes ≤ 1000 → AllEnd (parents_of (declared_of classes)) → Clear (InSome (declared_of classes) (λ number e. OfRule 9 (TooManyFields (declared_of classes) number e))) → IsTable (record { classes = rows_table (declared_of classes); names = class_names classes })
 table_facts classes few ends clear =
-    let size = rows_length (declared_of classes) (declared_of classes) 0 in
-    let declared = declared_length classes in
-    record { few = omega arith; rows = table_rows classes ends (known_of classes) clear }
+    let size = names_length classes in
+    record {
+      few = omega arith;
+      names_are = sym (declared_names classes) ∙ sym (row_names (declared_of classes) (declared_of classes) 0);
+      rows = table_rows classes ends (known_of classes) clear;
+    }

@@ -1,5 +1,5 @@
 -- The nearest method above with the same name and number of parameters, by which overriding is checked.
-use Rattle.std.specs.Prelude.{ℕ, ◌≡◌, Bool, true, false, List, [], ◌∷◌, Option, Some, None}
+use Rattle.std.specs.Prelude.{ℕ, ◌≡◌, Bool, true, false, List, [], ◌∷◌, Option, None}
 use Rattle.std.specs.Option.{option_map_or, option_or}
 use Rattle.class_table.specs.declared.declaration.Declaration.{Declaration}
 use Rattle.class_table.specs.declared.row.MethodRow.{MethodRow}

@@ -5,6 +5,7 @@ use Rattle.class_table.specs.declared.row.ClassTable.{ClassTable}
 use Rattle.class_table.specs.declared.row.ClassRow.{ClassRow}
 use Rattle.class_table.specs.declared.declaration.Declaration.{Declaration}
 use Rattle.class_table.specs.Ancestors.{line_at}
+use Rattle.class_table.specs.Names.{class_names}
 use Rattle.class_table.specs.Declarations.{declared_of}
 use Rattle.class_table.specs.Fields.{fields_along}
 
@@ -18,6 +19,6 @@ abbrev pub rows_from : List Declaration → ℕ → List Declaration → List Cl
 rows_from declared number [] = []
 rows_from declared number (d ∷ more) = row_of declared number d ∷ rows_from declared (number + 1) more
 
--- the table of a file: a row for each class, with all that it inherits
+-- the table of a file: a row for each class, with all that it inherits, and the names by which the classes are found
 abbrev pub table_of : FileTree → ClassTable
-table_of tree = record { classes = rows_from (declared_of tree.classes) 0 (declared_of tree.classes) }
+table_of tree = record { classes = rows_from (declared_of tree.classes) 0 (declared_of tree.classes); names = class_names tree.classes }

@@ -130,10 +130,12 @@ fn rows_of(
     Ok(rows(alloc, index, parts.as_slice(), declared)?)
 }
 
-/// The class table of a file (JLS 6.3, 8.1 to 8.4, 8.8): a row for each class, the built-in ones first.
+/// The class table of a file (JLS 6.3, 8.1 to 8.4, 8.8): a row for each class by its number, counted from 0, the
+/// built-in ones first and then those of the file in text order.
 ///
 /// # Errors
-/// A fault where one of the rules 1 to 9 is broken at that token, and `OutOfMemory`.
+/// `Fault` with the number of a rule of 1 to 9 and the number of a token, counted from 0, at which that rule is broken:
+/// any one of them where several are. `OutOfMemory` where there is no memory left.
 #[tactic(auto, using(crate::proofs::CheckLemmas::table_found))]
 pub fn table(alloc: Global, tree: &FileTree) -> Result<ClassTable, CheckError>
     ensures table { IfOk result (λ table. table ≡ table_of tree.now) }
@@ -143,5 +145,8 @@ pub fn table(alloc: Global, tree: &FileTree) -> Result<ClassTable, CheckError>
 {
     let index = classes_of(alloc, tree.classes.as_slice())?;
     let classes = rows_of(alloc, &index, index.declared.as_slice())?;
-    Ok(ClassTable { classes })
+    Ok(ClassTable {
+        classes,
+        names: index.names,
+    })
 }

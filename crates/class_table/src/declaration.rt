@@ -1,3 +1,5 @@
+//! What a class declares by itself.
+
 use crate::row::{FieldRow, MakerRow, MethodRow, Shared};
 use java_tokens::Name;
 use sqlite_items::Items;

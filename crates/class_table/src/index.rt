@@ -1,3 +1,5 @@
+//! What is looked up in the classes, made once.
+
 use crate::declaration::Declaration;
 use crate::keys::Keys;
 use crate::row::Signature;

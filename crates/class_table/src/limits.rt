@@ -30,6 +30,7 @@ pub fn is_instance(field: &FieldRow) -> bool
     !is_static(&field.mods)
 }
 
+/// How many of some fields are instance fields.
 pub fn count(fields: &[FieldRow]) -> usize
     ensures { result ≡ length (filter member.is_instance fields.now) }
 {
@@ -47,6 +48,7 @@ pub fn counts(alloc: Global, declared: &[Declaration]) -> Result<Items<usize>, A
     Ok(counts)
 }
 
+/// How many instance fields a class declares.
 #[tactic(auto, using(crate::proofs::IndexLemmas::count_at_index))]
 fn count_at(index: &Index, class: u32) -> usize
     requires { IsIndex index.now }
@@ -73,6 +75,7 @@ pub fn total(index: &Index, line: &[u32]) -> Option<u32>
     Some(total as u32)
 }
 
+/// Whether a base type is `String`, as it is spelled.
 fn is_string(base: &BaseType, string: &Name) -> bool
     requires { string.now ≡ rule.string_name }
     ensures { result ≡ rule.is_string base.now }
@@ -83,6 +86,7 @@ fn is_string(base: &BaseType, string: &Name) -> bool
     }
 }
 
+/// Whether the one parameter is of type `String[]`, as it is spelled.
 fn is_string_array(params: &[TypeTree], string: &Name) -> bool
     requires { string.now ≡ rule.string_name }
     ensures { result ≡ rule.is_string_array params.now }
@@ -105,6 +109,7 @@ fn is_main(method: &MethodRow, main: &Name, string: &Name) -> bool
         && is_string_array(method.params.as_slice(), string)
 }
 
+/// Whether one of some methods is `main`.
 fn has_main(methods: &[MethodRow], main: &Name, string: &Name) -> bool
     requires main { main.now ≡ rule.main_name }
     requires string { string.now ≡ rule.string_name }
@@ -113,6 +118,7 @@ fn has_main(methods: &[MethodRow], main: &Name, string: &Name) -> bool
     methods.iter().any(|method| is_main(method, main, string))
 }
 
+/// Whether one of some classes declares `main`.
 fn any_main(declared: &[Declaration], main: &Name, string: &Name) -> bool
     requires main { main.now ≡ rule.main_name }
     requires string { string.now ≡ rule.string_name }

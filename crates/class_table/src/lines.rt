@@ -33,6 +33,7 @@ fn parents(alloc: Global, declared: &[Declaration]) -> Result<Items<Option<u32>>
     Ok(parents)
 }
 
+/// The number of the superclass of a class.
 fn parent(parents: &[Option<u32>], class: u32) -> Option<u32>
     ensures { result ≡ spec.parent_in parents.now class }
 {

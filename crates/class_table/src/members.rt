@@ -9,6 +9,7 @@ use java_syntax::{FieldTree, MakerTree, Member, MethodTree};
 use sqlite_items::Items;
 use std::alloc::{AllocError, Global};
 
+/// The row of a field, without its place.
 fn field_row(alloc: Global, owner: u32, field: &FieldTree) -> Result<FieldRow, AllocError>
     ensures { IfOk result (λ row. row ≡ spec.field_row owner field.now) }
 {
@@ -22,6 +23,7 @@ fn field_row(alloc: Global, owner: u32, field: &FieldTree) -> Result<FieldRow, A
     })
 }
 
+/// The row of a method.
 fn method_row(alloc: Global, method: &MethodTree) -> Result<MethodRow, AllocError>
     ensures { IfOk result (λ row. row ≡ spec.method_row method.now) }
 {
@@ -36,6 +38,7 @@ fn method_row(alloc: Global, method: &MethodTree) -> Result<MethodRow, AllocErro
     })
 }
 
+/// The row of a constructor.
 fn maker_row(alloc: Global, maker: &MakerTree) -> Result<MakerRow, AllocError>
     ensures { IfOk result (λ row. row ≡ spec.maker_row maker.now) }
 {

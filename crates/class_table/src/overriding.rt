@@ -23,6 +23,7 @@ use java_syntax::{BaseType, CheckError, TypeTree};
 use java_tokens::Name;
 use sqlite_items::{Items, at};
 
+/// Whether two base types are spelled alike.
 fn same_base(a: &BaseType, b: &BaseType) -> bool
     ensures { result ≡ member.same_base a.now b.now }
 {
@@ -41,6 +42,7 @@ fn same_type(a: &TypeTree, b: &TypeTree) -> bool
     same_base(&a.base, &b.base) && a.dimensions == b.dimensions
 }
 
+/// Whether two lists of types are spelled alike.
 fn same_types(mut a: &[TypeTree], mut b: &[TypeTree]) -> bool
     ensures { result ≡ member.same_types a.entry.now b.entry.now }
 {
@@ -57,6 +59,7 @@ fn same_types(mut a: &[TypeTree], mut b: &[TypeTree]) -> bool
     b.is_empty()
 }
 
+/// Whether two result types are spelled alike.
 fn same_answer(a: &Option<TypeTree>, b: &Option<TypeTree>) -> bool
     ensures { result ≡ member.same_answer a.now b.now }
 {
@@ -79,6 +82,7 @@ fn is_below(index: &Index, class: u32, other: u32) -> bool
     }
 }
 
+/// Whether a class is checked (JLS 11.1.1): `Throwable` or below it, and not `RuntimeException`, `Error` or below these.
 fn is_checked(index: &Index, class: u32) -> bool
     requires { IsIndex index.now }
     ensures { result ≡ rule.is_checked index.now.declared class }
@@ -133,6 +137,7 @@ fn is_allowed(index: &Index, allowed: &[Name], name: &Name) -> bool
     }
 }
 
+/// Whether all that a `throws` names is allowed by another `throws`.
 fn all_allowed(index: &Index, allowed: &[Name], thrown: &[Name]) -> bool
     requires index { IsIndex index.now }
     requires few { length index.now.names < 2 ^ 32 }

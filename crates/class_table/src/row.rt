@@ -1,6 +1,9 @@
-ghost use Rattle.std.specs.Prelude.{◌≡◌, ◌<◌, ◌≤◌, IfOk, IfSome, flat_map, length, position};
-ghost use Rattle.class_table.specs.Names.{same_name};
+//! The rows of the class table.
 
+ghost use Rattle.std.specs.Prelude.{◌≡◌, ◌<◌, ◌≤◌, IfOk, flat_map, length};
+ghost use Rattle.class_table.specs.Names.{number_of};
+
+use crate::keys::Keys;
 use java_syntax::{Mods, TypeTree};
 use java_tokens::Name;
 use sqlite_items::Items;
@@ -23,7 +26,7 @@ impl<T> Model for Shared<T> {
 }
 
 impl<T: Drop> Shared<T> {
-    /// The value, with one owner.
+    /// The value, with one owner. `AllocError` where there is no memory left.
     pub fn new(alloc: Global, value: T) -> Result<Shared<T>, AllocError>
         ensures { IfOk result (λ shared. shared ≡ value) }
     {
@@ -39,7 +42,7 @@ impl<T: Drop> Shared<T> {
         self.inner.as_ref()
     }
 
-    /// One owner more of the same value.
+    /// One owner more of the same value, which is not copied. `AllocError` where there is no memory left.
     pub fn share(&self) -> Result<Shared<T>, AllocError>
         ensures { IfOk result (λ shared. shared ≡ self.now) }
     {
@@ -52,10 +55,13 @@ impl<T: Drop> Shared<T> {
 /// A field or a constant of a class (JLS 8.3).
 #[derive(Drop)]
 pub struct FieldRow {
+    /// Its name; that of the message of a throwable, `#message`, no source can spell.
     pub name: Name,
+    /// Its type as it is spelled.
     pub ty: TypeTree,
     /// The number of the class that declares it.
     pub owner: u32,
+    /// Its modifiers in order; a constant is `static`.
     pub mods: Mods,
     /// Its place among the instance fields of an object, from 0; `None` for a constant.
     pub place: Option<u32>,
@@ -66,15 +72,17 @@ pub struct FieldRow {
 /// A method of a class (JLS 8.4).
 #[derive(Drop)]
 pub struct MethodRow {
+    /// Its name.
     pub name: Name,
-    /// The types of the parameters in order.
+    /// The types of the parameters in order, as they are spelled.
     pub params: Items<TypeTree>,
     /// The names of the parameters in order.
     pub names: Items<Name>,
     /// The type of its result; `None` for `void`.
     pub answer: Option<TypeTree>,
-    /// The classes that `throws` names.
+    /// The names behind `throws` in order.
     pub throws: Items<Name>,
+    /// The modifiers in order.
     pub mods: Mods,
     /// The number of the name's token, 0 for what is built in.
     pub at: u32,
@@ -85,8 +93,9 @@ pub struct MethodRow {
 pub struct MakerRow {
     /// The types of the parameters in order.
     pub params: Items<TypeTree>,
-    /// The classes that `throws` names.
+    /// The names behind `throws` in order.
     pub throws: Items<Name>,
+    /// The modifiers in order.
     pub mods: Mods,
     /// The number of the name's token, 0 for what is built in.
     pub at: u32,
@@ -135,12 +144,17 @@ pub struct Signature {
 /// A class (JLS 8.1).
 #[derive(Drop)]
 pub struct ClassRow {
+    /// Its name.
     pub name: Name,
+    /// The number of its superclass; `None` for `Object` alone (JLS 8.1.4).
     pub parent: Option<u32>,
-    /// The class itself, its superclass, and so on to `Object`.
+    /// The numbers of the class itself, its superclass, and so on to `Object`.
     pub line: Items<u32>,
+    /// Its fields and constants, the inherited ones first (JLS 8.2).
     pub fields: Fields,
+    /// The methods that it declares itself, in text order.
     pub methods: Shared<Items<MethodRow>>,
+    /// The constructors that it declares itself, in text order.
     pub makers: Shared<Items<MakerRow>>,
     /// The number of the name's token, 0 for what is built in.
     pub at: u32,
@@ -149,25 +163,21 @@ pub struct ClassRow {
 /// The classes of a program: the built-in ones by their numbers, then those of the file in text order.
 #[derive(Drop)]
 pub struct ClassTable {
+    /// The rows of the classes by their numbers, counted from 0.
     pub classes: Items<ClassRow>,
-}
-
-/// The place of the class of that name.
-fn place_of(rows: &[ClassRow], name: &Name) -> Option<usize>
-    ensures place { result ≡ position (λ row. same_name row.name name.now) rows.now }
-    ensures within { IfSome result (λ place. place < length rows.now) }
-{
-    rows.iter().position(|row| row.name == *name)
+    /// The names of the classes by their numbers.
+    pub(crate) names: Keys<Name>,
 }
 
 impl ClassTable {
-    /// The number of the class of that name, or `None` where no class has it. It takes no memory.
+    /// The number of the class of that name, counted from 0, or `None` where no class has it (JLS 6.3). It takes no
+    /// memory.
     pub fn find(&self, name: &Name) -> Option<u32>
-        requires { length self.now.classes ≤ 1018 }
-        ensures { result ≡ position (λ row. same_name row.name name.now) self.now.classes }
+        requires { length self.now.names ≤ 1018 }
+        ensures { result ≡ number_of self.now.names name.now }
     {
-        match place_of(self.classes.as_slice(), name) {
-            Some(place) => Some(place as u32),
+        match self.names.number(name) {
+            Some(number) => Some(number as u32),
             None => None,
         }
     }

@@ -21,6 +21,7 @@ use java_syntax::CheckError;
 use sqlite_items::{Items, at};
 use std::alloc::{AllocError, Global};
 
+/// A copy of a field with this place.
 fn copy_field(alloc: Global, field: &FieldRow, place: Option<u32>) -> Result<FieldRow, AllocError>
     ensures { IfOk result (λ row. row ≡ record field.now { place = place }) }
 {

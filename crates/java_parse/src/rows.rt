@@ -1,7 +1,7 @@
 //! Sources for each production of the grammar, and ones that it refuses.
 
-/// Expressions.
-pub const EXPRESSIONS: [&str; 72] = [
+/// Expressions with an operator.
+pub const OPERATIONS: [&str; 29] = [
     "a || b",
     "a && b || c",
     "a | b",
@@ -31,6 +31,10 @@ pub const EXPRESSIONS: [&str; 72] = [
     "! a",
     "~ a",
     "! - a",
+];
+
+/// Casts and parentheses.
+pub const CASTS: [&str; 15] = [
     "( A ) b",
     "( A ) ( b )",
     "( A ) ! b",
@@ -46,6 +50,10 @@ pub const EXPRESSIONS: [&str; 72] = [
     "( a ) + b",
     "( a . b ) - c",
     "( ( a ) )",
+];
+
+/// Expressions that begin with a primary one, and conditional ones.
+pub const PRIMARIES: [&str; 28] = [
     "a . b",
     "a . b ( )",
     "a . b ( 1 , c )",
@@ -76,8 +84,8 @@ pub const EXPRESSIONS: [&str; 72] = [
     "a ? b ? c : d : e",
 ];
 
-/// No expressions.
-pub const NO_EXPRESSIONS: [&str; 68] = [
+/// No expressions, for want of an operand or an operator.
+pub const NO_OPERATIONS: [&str; 20] = [
     "a ||",
     "|| a",
     "a &&",
@@ -98,6 +106,10 @@ pub const NO_EXPRESSIONS: [&str; 68] = [
     "+",
     "!",
     "~",
+];
+
+/// No expressions, by their casts, parentheses, fields and elements.
+pub const NO_CASTS: [&str; 17] = [
     "( int ) a",
     "( boolean ) a",
     "( int [ ] ) - a",
@@ -115,6 +127,10 @@ pub const NO_EXPRESSIONS: [&str; 68] = [
     "a [ ]",
     "a [ 1",
     "a [ 1 )",
+];
+
+/// No expressions, by their calls, new objects and conditions.
+pub const NO_PRIMARIES: [&str; 31] = [
     "f (",
     "f ( 1",
     "f ( , 1 )",
@@ -148,8 +164,8 @@ pub const NO_EXPRESSIONS: [&str; 68] = [
     "1 . .",
 ];
 
-/// Statements of a block.
-pub const STATEMENTS: [&str; 63] = [
+/// Blocks, declarations and assignments.
+pub const DECLARATIONS: [&str; 25] = [
     "{ }",
     "{ int x ; { } }",
     "int x ;",
@@ -175,6 +191,10 @@ pub const STATEMENTS: [&str; 63] = [
     "a [ 0 ] = 1 ;",
     "a . b = 1 ;",
     "( a ) = 1 ;",
+];
+
+/// Expressions as statements.
+pub const EXPRESSION_STATEMENTS: [&str; 15] = [
     "x ++ ;",
     "x -- ;",
     "( i ) ++ ;",
@@ -190,6 +210,10 @@ pub const STATEMENTS: [&str; 63] = [
     "super ( ) ;",
     "super ( 1 , a ) ;",
     "super . f ( ) ;",
+];
+
+/// Statements that choose, repeat, jump and catch.
+pub const CONTROL_STATEMENTS: [&str; 23] = [
     "if ( a ) ;",
     "if ( a ) ; else ;",
     "if ( a ) if ( b ) ; else ;",
@@ -215,8 +239,8 @@ pub const STATEMENTS: [&str; 63] = [
     "try { } catch ( A e ) { } finally { }",
 ];
 
-/// No statements of a block.
-pub const NO_STATEMENTS: [&str; 79] = [
+/// No statements, by their assignments and expressions.
+pub const NO_ASSIGNMENTS: [&str; 24] = [
     "{",
     "}",
     "{ ;",
@@ -241,6 +265,10 @@ pub const NO_STATEMENTS: [&str; 79] = [
     "super ( )",
     "super ( ) . f ( ) ;",
     "this ( ) ;",
+];
+
+/// No statements that choose or repeat.
+pub const NO_CONTROL_STATEMENTS: [&str; 24] = [
     "if a ;",
     "if ( ) ;",
     "if ( a )",
@@ -265,6 +293,10 @@ pub const NO_STATEMENTS: [&str; 79] = [
     "for ( ; ; i ++ , ) ;",
     "for ( int i : a ) ;",
     "for ; ; ;",
+];
+
+/// No statements that jump or catch, and no declarations.
+pub const NO_JUMPS: [&str; 31] = [
     "return 1",
     "return int ;",
     "break 1 ;",

@@ -1,10 +1,13 @@
 use crate::rows::{
-    EXPRESSIONS, FILES, MEMBERS, NO_EXPRESSIONS, NO_FILES, NO_MEMBERS, NO_STATEMENTS, STATEMENTS,
+    CASTS, CONTROL_STATEMENTS, DECLARATIONS, EXPRESSION_STATEMENTS, FILES, MEMBERS, NO_ASSIGNMENTS,
+    NO_CASTS, NO_CONTROL_STATEMENTS, NO_FILES, NO_JUMPS, NO_MEMBERS, NO_OPERATIONS, NO_PRIMARIES,
+    OPERATIONS, PRIMARIES,
 };
 use crate::{ParseError, parse};
 use java_syntax::{BinaryOp, Expr, FileTree, Member, Stmt};
 use java_tokens::tokens;
 use std::alloc::{AllocError, Global};
+use std::process::Abort;
 use std::test::Fail;
 
 /// The bytes of the longest text that the tests read.
@@ -106,72 +109,176 @@ fn nested(alloc: Global, pairs: usize) -> Result<&'static str, AllocError> {
     )
 }
 
-#[test]
-fn expressions(rt: HostRuntime) -> Result<(), Fail> {
-    let alloc = rt.alloc();
-    for text in EXPRESSIONS {
-        assert_eq!(rt;
-            answer_in(alloc, "class A { int x =", text, "; }")?,
-            "tree",
-            "{text}"
-        );
-    }
-    for text in NO_EXPRESSIONS {
-        assert_eq!(rt;
-            answer_in(alloc, "class A { int x =", text, "; }")?,
-            "syntax",
-            "{text}"
-        );
+/// Whether the parser answers so to each of the texts between these two.
+fn all_answer(
+    rt: &impl Abort,
+    alloc: Global,
+    texts: &[&str],
+    before: &str,
+    after: &str,
+    want: &str,
+) -> Result<(), Fail> {
+    for text in texts {
+        assert_eq!(rt; answer_in(alloc, before, text, after)?, want, "{text}");
     }
     Ok(())
 }
 
 #[test]
-fn statements(rt: HostRuntime) -> Result<(), Fail> {
-    let alloc = rt.alloc();
-    for text in STATEMENTS {
-        assert_eq!(rt;
-            answer_in(alloc, "class A { void f ( ) {", text, "} }")?,
-            "tree",
-            "{text}"
-        );
-    }
-    for text in NO_STATEMENTS {
-        assert_eq!(rt;
-            answer_in(alloc, "class A { void f ( ) {", text, "} }")?,
-            "syntax",
-            "{text}"
-        );
-    }
-    Ok(())
+fn operations(rt: HostRuntime) -> Result<(), Fail> {
+    all_answer(
+        &rt,
+        rt.alloc(),
+        &OPERATIONS,
+        "class A { int x =",
+        "; }",
+        "tree",
+    )
+}
+
+#[test]
+fn casts(rt: HostRuntime) -> Result<(), Fail> {
+    all_answer(&rt, rt.alloc(), &CASTS, "class A { int x =", "; }", "tree")
+}
+
+#[test]
+fn primaries(rt: HostRuntime) -> Result<(), Fail> {
+    all_answer(
+        &rt,
+        rt.alloc(),
+        &PRIMARIES,
+        "class A { int x =",
+        "; }",
+        "tree",
+    )
+}
+
+#[test]
+fn no_operations(rt: HostRuntime) -> Result<(), Fail> {
+    all_answer(
+        &rt,
+        rt.alloc(),
+        &NO_OPERATIONS,
+        "class A { int x =",
+        "; }",
+        "syntax",
+    )
+}
+
+#[test]
+fn no_casts(rt: HostRuntime) -> Result<(), Fail> {
+    all_answer(
+        &rt,
+        rt.alloc(),
+        &NO_CASTS,
+        "class A { int x =",
+        "; }",
+        "syntax",
+    )
+}
+
+#[test]
+fn no_primaries(rt: HostRuntime) -> Result<(), Fail> {
+    all_answer(
+        &rt,
+        rt.alloc(),
+        &NO_PRIMARIES,
+        "class A { int x =",
+        "; }",
+        "syntax",
+    )
+}
+
+#[test]
+fn declarations(rt: HostRuntime) -> Result<(), Fail> {
+    all_answer(
+        &rt,
+        rt.alloc(),
+        &DECLARATIONS,
+        "class A { void f ( ) {",
+        "} }",
+        "tree",
+    )
+}
+
+#[test]
+fn expression_statements(rt: HostRuntime) -> Result<(), Fail> {
+    all_answer(
+        &rt,
+        rt.alloc(),
+        &EXPRESSION_STATEMENTS,
+        "class A { void f ( ) {",
+        "} }",
+        "tree",
+    )
+}
+
+#[test]
+fn control_statements(rt: HostRuntime) -> Result<(), Fail> {
+    all_answer(
+        &rt,
+        rt.alloc(),
+        &CONTROL_STATEMENTS,
+        "class A { void f ( ) {",
+        "} }",
+        "tree",
+    )
+}
+
+#[test]
+fn no_assignments(rt: HostRuntime) -> Result<(), Fail> {
+    all_answer(
+        &rt,
+        rt.alloc(),
+        &NO_ASSIGNMENTS,
+        "class A { void f ( ) {",
+        "} }",
+        "syntax",
+    )
+}
+
+#[test]
+fn no_control_statements(rt: HostRuntime) -> Result<(), Fail> {
+    all_answer(
+        &rt,
+        rt.alloc(),
+        &NO_CONTROL_STATEMENTS,
+        "class A { void f ( ) {",
+        "} }",
+        "syntax",
+    )
+}
+
+#[test]
+fn no_jumps(rt: HostRuntime) -> Result<(), Fail> {
+    all_answer(
+        &rt,
+        rt.alloc(),
+        &NO_JUMPS,
+        "class A { void f ( ) {",
+        "} }",
+        "syntax",
+    )
 }
 
 #[test]
 fn members(rt: HostRuntime) -> Result<(), Fail> {
-    let alloc = rt.alloc();
-    for text in MEMBERS {
-        assert_eq!(rt; answer_in(alloc, "class A {", text, "}")?, "tree", "{text}");
-    }
-    for text in NO_MEMBERS {
-        assert_eq!(rt;
-            answer_in(alloc, "class A {", text, "}")?,
-            "syntax",
-            "{text}"
-        );
-    }
-    Ok(())
+    all_answer(&rt, rt.alloc(), &MEMBERS, "class A {", "}", "tree")
+}
+
+#[test]
+fn no_members(rt: HostRuntime) -> Result<(), Fail> {
+    all_answer(&rt, rt.alloc(), &NO_MEMBERS, "class A {", "}", "syntax")
 }
 
 #[test]
 fn files(rt: HostRuntime) -> Result<(), Fail> {
-    let alloc = rt.alloc();
-    for text in FILES {
-        assert_eq!(rt; answer(alloc, text)?, "tree", "{text}");
-    }
-    for text in NO_FILES {
-        assert_eq!(rt; answer(alloc, text)?, "syntax", "{text}");
-    }
-    Ok(())
+    all_answer(&rt, rt.alloc(), &FILES, "", "", "tree")
+}
+
+#[test]
+fn no_files(rt: HostRuntime) -> Result<(), Fail> {
+    all_answer(&rt, rt.alloc(), &NO_FILES, "", "", "syntax")
 }
 
 #[test]

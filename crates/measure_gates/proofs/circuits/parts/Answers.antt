@@ -18,7 +18,7 @@ more w i = grind arith
 pub loop-preserved : goal.loop-preserved
 loop-preserved c =
     let i = c.loop.counter in
-    let made = c.input.new.net in
+    let made = c.input.new.self in
     let after = c.constant.new.net in
     let same : after ≡ made = c.constant.ensures.grows in
     let done = c.loop.parts.items in

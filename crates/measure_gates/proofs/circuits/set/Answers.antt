@@ -18,5 +18,5 @@ loop-preserved c =
       begins = continues-then _ _ _ c.loop.invariant.begins c.input.ensures.begins;
       count = omega (arith, c.in_ok-node.ensures.nodes, c.loop.invariant.count);
       width = size-push c.loop.nodes.items c.push.new.self.items c.in_ok-node.node c.loop.counter pushed c.loop.invariant.width;
-      nodes = nodes-push c.loop.net c.input.new.net c.loop.nodes.items c.push.new.self.items c.in_ok-node.node pushed c.input.ensures.begins c.loop.invariant.nodes c.in_ok-node.ensures.node;
+      nodes = nodes-push c.loop.net c.input.new.self c.loop.nodes.items c.push.new.self.items c.in_ok-node.node pushed c.input.ensures.begins c.loop.invariant.nodes c.in_ok-node.ensures.node;
     }

@@ -1,0 +1,4 @@
+pub mod Opens
+pub mod Moves
+pub mod Runs
+pub mod Steps

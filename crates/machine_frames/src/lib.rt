@@ -1,0 +1,22 @@
+//! What the machine of the whole language keeps between its steps, and why steps that go on as the parts of a node do make
+//! a whole run.
+//!
+//! A step of the machine pushes frames and says before which part it stands. `specs/Frames` says what frames make of the
+//! answer of that part, and what it means that the machine goes on as a part goes on; `specs/Points` says how a step leads
+//! each whole run from one point to the next, for every number of steps that may be left. `proofs/Runs` and
+//! `proofs/Steps` show that a machine whose functions go on so does what the reference evaluation does: its outcome, its
+//! output, its steps and its heap. The functions themselves are not here yet.
+//!
+//! Read `frame`, `running`, then `specs/Frames` and `specs/Points`.
+#![tactic(auto)]
+
+mod frame;
+mod running;
+mod stack;
+
+pub use frame::{
+    CallEnd, CallFrame, Callee, EarlyEnd, Focus, Frame, LoopFrame, LoopParts, Made, Next, PlaceUse,
+    PlainFrame, ValueFrame,
+};
+pub use running::Running;
+pub use stack::Stack;

@@ -1,0 +1,56 @@
+//! A run in progress. None of it is public.
+
+ghost use Rattle.std.specs.Prelude.{IfOk, OnOk, OnErr, false};
+ghost use Rattle.evaluation.specs.World.{value_then};
+ghost use Rattle.machine_frames.specs.Frames.{point, used, Pushes, Moves, IsLight, Fails};
+
+use crate::frame::{Focus, Frame, ValueFrame};
+use crate::stack::Stack;
+use core_tree::{Expr, OutOfMemory, Program};
+use heap_arena::{Cell, Store};
+use sqlite_items::Items;
+use std::alloc::Global;
+
+/// A run in progress: the program, the frames, the body that is being run, the store, the steps taken and how many may be
+/// taken. References are positions of the store.
+#[derive(Drop)]
+pub struct Running<'p, S> {
+    pub program: &'p Program,
+    pub frames: Stack<Frame<'p>>,
+    /// The object that `this` is.
+    pub this: Option<u32>,
+    pub locals: Items<Cell<u32>>,
+    /// How many calls are live.
+    pub live: u32,
+    pub store: S,
+    pub taken: u64,
+    pub budget: u64,
+    pub alloc: Global,
+}
+
+impl<'p, S: Store + Drop> Running<'p, S> {
+    /// Puts a frame over those that are there.
+    pub fn push(&mut self, frame: Frame<'p>) -> Result<(), OutOfMemory>
+        ensures ok { OnOk result (Pushes frame.entry
+            (point S.now S.marks S.field_types self.old) (point S.now S.marks S.field_types self.new)) }
+        ensures err { OnErr result (Fails
+            (point S.now S.marks S.field_types self.old) (point S.now S.marks S.field_types self.new)) }
+    {
+        self.frames.push(frame)?;
+        Ok(())
+    }
+
+    /// Goes on with the value of an expression.
+    pub fn value_of(&mut self, e: &'p Expr, frame: ValueFrame<'p>) -> Result<Focus<'p>, OutOfMemory>
+        ensures ok { IfOk result (λ y. Moves false
+            (λ part w. value_then (used self.old.program.now part frame.entry) (part.expr e.now w))
+            (point S.now S.marks S.field_types self.old) (point S.now S.marks S.field_types self.new) y) }
+        ensures light { IfOk result (λ y. IsLight 0
+            (point S.now S.marks S.field_types self.old) (point S.now S.marks S.field_types self.new) y) }
+        ensures err { OnErr result (Fails
+            (point S.now S.marks S.field_types self.old) (point S.now S.marks S.field_types self.new)) }
+    {
+        self.push(Frame::Value(frame))?;
+        Ok(Focus::Expr(e))
+    }
+}

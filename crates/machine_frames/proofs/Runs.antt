@@ -22,7 +22,7 @@ use Rattle.machine_frames.specs.declared.frame.Frame.{Frame}
 use Rattle.machine_frames.specs.declared.frame.Frame.TheVariants as frame
 use Rattle.machine_frames.specs.declared.frame.Focus.{Focus}
 use Rattle.machine_frames.specs.declared.frame.Focus.TheVariants as focus
-use Rattle.machine_frames.specs.Frames.{loop_of, used, passed, built, repeated, plainly, resumed, stacked, focused, Point, world, is_other, AreOther, IsFresh, Moves}
+use Rattle.machine_frames.specs.Frames.{loop_of, used, passed, built, repeated, followed, plainly, resumed, stacked, focused, Point, world, is_other, AreOther, IsFresh, Moves}
 use Rattle.machine_frames.specs.Points.{wanted, Stands, room, depth_of, Gives, At}
 use Rattle.machine_frames.proofs.Opens.{opens_expr, opens_stmt, opens_loop}
 
@@ -69,21 +69,17 @@ module _ (p : Program) (part : Parts) where
   catching_after ks out _ w more kept = refl
 
   plainly_after : (x : PlainFrame) (out : List ℕ) (a : Answer) → plainly p part x (after out [] a) ≡ after out [] (plainly p part x a)
-  plainly_after (plain.Rest ss next) out a = normal_after (block p part (drop next ss.now)) out a.outcome a.world a.out a.kept
-  plainly_after (plain.FirstTurn l) out a = normal_after (turn p part (loop_of l)) out a.outcome a.world a.out a.kept
   plainly_after (plain.Leave e this locals) out a = refl
   plainly_after (plain.Catching ks) out a = catching_after ks.now out a.outcome a.world a.out a.kept
   plainly_after (plain.Finally s) out a = finally_after (part.stmt s.now) out a.outcome a.world a.out a.kept
   plainly_after (plain.Finished o) out a = keeping_after o out a.outcome a.world a.out a.kept
-  plainly_after (plain.New o) out a = normal_after (gives (outcome.Value (value.Ref o))) out a.outcome a.world a.out a.kept
-  plainly_after (plain.Parent o maker) out a = normal_after (built p part o maker.now) out a.outcome a.world a.out a.kept
-  plainly_after (plain.Fields o c next fields) out a = normal_after (initialise p part o c next (drop next fields.now)) out a.outcome a.world a.out a.kept
 
   resumed_after : (x : Frame) (out : List ℕ) (a : Answer) → resumed p part x (after out [] a) ≡ after out [] (resumed p part x a)
   resumed_after (frame.Value x) out a = value_after (used p part x) out a.outcome a.world a.out a.kept
   resumed_after (frame.Call x) out a = value_after (passed p part x) out a.outcome a.world a.out a.kept
   resumed_after (frame.Loop (loop.Body l)) out a = body_after (loop_of l) out a.outcome a.world a.out a.kept
   resumed_after (frame.Loop (loop.Updates l)) out a = normal_after (part.loop (loop_of l)) out a.outcome a.world a.out a.kept
+  resumed_after (frame.Normal x) out a = normal_after (followed p part x) out a.outcome a.world a.out a.kept
   resumed_after (frame.Plain x) out a = plainly_after x out a
 
 -- ---- stacks of frames
@@ -112,12 +108,14 @@ wanted_low : (x : Frame) (k : ℕ) → k ≤ wanted x k
 wanted_low (frame.Loop x) k = omega arith
 wanted_low (frame.Value x) k = omega arith
 wanted_low (frame.Call x) k = omega arith
+wanted_low (frame.Normal x) k = omega arith
 wanted_low (frame.Plain x) k = omega arith
 
 wanted_other : (x : Frame) (k : ℕ) → is_other x ≡ true → suc k ≤ wanted x k
 wanted_other (frame.Loop x) k other = cc
 wanted_other (frame.Value x) k other = omega arith
 wanted_other (frame.Call x) k other = omega arith
+wanted_other (frame.Normal x) k other = omega arith
 wanted_other (frame.Plain x) k other = omega arith
 
 all_wanted : (g k : ℕ) (xs : List Frame) → g ≤ k → AreWanted g k xs
@@ -243,6 +241,7 @@ at_answer m n printed x o y other mv R at = record {
     wanted_at_most (frame.Loop x) f k le = omega arith
     wanted_at_most (frame.Value x) f k le = omega arith
     wanted_at_most (frame.Call x) f k le = omega arith
+    wanted_at_most (frame.Normal x) f k le = omega arith
     wanted_at_most (frame.Plain x) f k le = omega arith
 
 -- a loop's frame has been taken off m: it is one turn deeper

@@ -3,7 +3,7 @@ use Rattle.std.proofs.Common.{Bor, ◌≡◌, ℕ, suc, ◌+◌, ◌-◌, ◌≤
 use Rattle.std.proofs.Math.Nat.{mul-suc}
 use Rattle.pb_io.specs.declared.sink.PutError.{PutError}
 use Rattle.pb_io.specs.Sink.{SinkState, Puts}
-use Rattle.pb_io.proofs.Puts.{Puts-nil, Puts-stop}
+use Rattle.pb_io.proofs.Puts.{Puts-nil, Puts-stop, Puts-append}
 use Rattle.core_tree.specs.declared.expr.Expr.{Expr, out-Expr}
 use Rattle.core_tree.specs.declared.stmt.Stmt.{Stmt, out-Stmt}
 use Rattle.core_tree.specs.declared.program.Program.{Program}
@@ -20,6 +20,8 @@ use Rattle.machine_frames.specs.declared.frame.LoopFrame.TheVariants as loop
 use Rattle.machine_frames.specs.declared.frame.CallFrame.{CallFrame}
 use Rattle.machine_frames.specs.declared.frame.CallFrame.TheVariants as call
 use Rattle.machine_frames.specs.declared.frame.CallEnd.TheVariants as end
+use Rattle.machine_frames.specs.declared.frame.NormalFrame.{NormalFrame}
+use Rattle.machine_frames.specs.declared.frame.NormalFrame.TheVariants as normal
 use Rattle.machine_frames.specs.declared.frame.PlainFrame.TheVariants as plain
 use Rattle.machine_frames.specs.declared.frame.ValueFrame.{ValueFrame}
 use Rattle.machine_frames.specs.declared.frame.PlainFrame.{PlainFrame}
@@ -28,9 +30,10 @@ use Rattle.machine_frames.specs.declared.frame.Frame.{Frame}
 use Rattle.machine_frames.specs.declared.frame.Frame.TheVariants as frame
 use Rattle.machine_frames.specs.declared.frame.Focus.{Focus}
 use Rattle.machine_frames.specs.declared.frame.Focus.TheVariants as focus
+use Rattle.machine_frames.specs.declared.frame.EarlyEnd.{EarlyEnd}
 use Rattle.machine_frames.specs.declared.frame.EarlyEnd.TheVariants as early
-use Rattle.machine_frames.specs.Frames.{loop_of, used, passed, plainly, repeated, resumed, focused, Point, world, is_other, construct_weight, frame_calling, call_frame_weight, frame_weight, frames_weight, focus_weight, entry_weight, IsLight, Moves, Fails}
-use Rattle.machine_frames.specs.Points.{Stands, At, Leads, Ends, Stops, work}
+use Rattle.machine_frames.specs.Frames.{loop_of, used, passed, plainly, repeated, resumed, focused, Setting, Point, world, is_other, construct_weight, frame_calling, call_frame_weight, frame_weight, frames_weight, focus_weight, entry_weight, IsLight, Moves, Fails}
+use Rattle.machine_frames.specs.Points.{Stands, At, Leads, Ends, Stops, work, sink_answer}
 use Rattle.machine_frames.proofs.Opens.{no_step_expr, no_step_stmt}
 use Rattle.machine_frames.proofs.Runs.{Result, stepped, at_expr, at_stmt, at_loop, at_construct, at_answer, at_turn, at_print, prints_bytes}
 
@@ -111,13 +114,16 @@ step_value m0 m n x o y sink le is mv light = step_frame m0 m n (frame.Value x) 
 pub step_plain : (m0 m n : Point) (x : PlainFrame) (o : Outcome) (y : Focus) (sink : SinkState) → m.taken ≤ m.setting.budget → m0 ≡ record m { frames = frame.Plain x ∷ m.frames } → Moves false (λ part w. resumed m.setting.program part (frame.Plain x) (gives o w)) m n y → IsLight 0 m n y → Goes m0 (focus.Answer o) sink n y sink
 step_plain m0 m n x o y sink le is mv light = step_frame m0 m n (frame.Plain x) 0 o y sink le is refl (omega arith) mv light
 
+pub step_normal : (m0 m n : Point) (x : NormalFrame) (o : Outcome) (y : Focus) (sink : SinkState) → m.taken ≤ m.setting.budget → m0 ≡ record m { frames = frame.Normal x ∷ m.frames } → Moves false (λ part w. resumed m.setting.program part (frame.Normal x) (gives o w)) m n y → IsLight 0 m n y → Goes m0 (focus.Answer o) sink n y sink
+step_normal m0 m n x o y sink le is mv light = step_frame m0 m n (frame.Normal x) 0 o y sink le is refl (omega arith) mv light
+
 pub step_call : (m0 m n : Point) (x : CallFrame) (o : Outcome) (y : Focus) (sink : SinkState) → m.taken ≤ m.setting.budget → m0 ≡ record m { frames = frame.Call x ∷ m.frames } → Moves false (λ part w. resumed m.setting.program part (frame.Call x) (gives o w)) m n y → IsLight (frame_calling (length m.setting.program.classes) x) m n y → Goes m0 (focus.Answer o) sink n y sink
 step_call m0 m n x o y sink le is mv light =
     step_frame m0 m n (frame.Call x) (frame_calling (length m.setting.program.classes) x) o y sink le is refl (calling_less (length m.setting.program.classes) x) mv light
   where
     calling_less : (classes : ℕ) (x : CallFrame) → 1 + frame_calling classes x < call_frame_weight classes x
     calling_less classes (call.Receiver selector es) = omega arith
-    calling_less classes (call.Argument c es next got) = omega arith
+    calling_less classes (call.Argument c es got) = omega arith
 
 pub step_turn : (m0 m n : Point) (x : LoopFrame) (o : Outcome) (y : Focus) (sink : SinkState) → m.taken ≤ m.setting.budget → m0 ≡ record m { frames = frame.Loop x ∷ m.frames } → Moves true (λ part w. repeated m.setting.program part x (gives o w)) m n y → IsLight 2 m n y → Goes m0 (focus.Answer o) sink n y sink
 step_turn m0 m n x o y sink le is mv light =
@@ -145,13 +151,23 @@ empty_same : (p : Program) (g : ℕ) (xs : List Frame) (make : Answer → Answer
 empty_same p g [] make e st = st
 empty_same p g (x ∷ xs) make e st = cc
 
+-- a run with so many steps more
+at_steps : (m : Point) (o : Outcome) (f : ℕ) → m.frames ≡ [] → (R : Result) (printed : List ℕ) (J : List Entry) → At R m printed (focus.Answer o) → R (m.taken + f) J ≡ after printed [] (gives o (world m f J))
+at_steps m o f empty R printed J at =
+    let G = at.gives f J in
+    G.same ∙ ap (after printed []) (empty_same m.setting.program _ m.frames G.make empty G.frames (gives o (world m f J)))
+
 -- the run with the budget as its steps
 at_budget : (m : Point) (o : Outcome) → m.taken ≤ m.setting.budget → m.frames ≡ [] → (R : Result) (printed : List ℕ) (J : List Entry) → At R m printed (focus.Answer o) → R m.setting.budget J ≡ after printed [] (gives o (world m (m.setting.budget - m.taken) J))
 at_budget m o le empty R printed J at =
-    let f = m.setting.budget - m.taken in
-    let e : m.setting.budget ≡ m.taken + f = omega arith in
-    let G = at.gives f J in
-    ap (λ t. R t J) e ∙ G.same ∙ ap (after printed []) (empty_same m.setting.program _ m.frames G.make empty G.frames (gives o (world m f J)))
+    let e : m.setting.budget ≡ m.taken + (m.setting.budget - m.taken) = omega arith in
+    ap (λ t. R t J) e ∙ at_steps m o (m.setting.budget - m.taken) empty R printed J at
+
+-- the run with just the steps that were taken
+at_taken : (m n : Point) (o : Outcome) → n.taken ≡ m.taken → m.frames ≡ [] → (R : Result) (printed : List ℕ) (J : List Entry) → At R m printed (focus.Answer o) → R n.taken J ≡ after printed [] (gives o (world m 0 J))
+at_taken m n o taken empty R printed J at =
+    let e : n.taken ≡ m.taken + 0 = omega (arith, taken) in
+    ap (λ t. R t J) e ∙ at_steps m o 0 empty R printed J at
 
 pub ends_answer : (m n : Point) (o : Outcome) (sink : SinkState) → m.taken ≤ m.setting.budget → m.frames ≡ [] → n.setting ≡ m.setting → n.marks ≡ m.marks → n.taken ≡ m.taken → n.now ≡ m.now → Ends m (focus.Answer o) sink n sink o
 ends_answer m n o sink le empty setting marks taken now = record {
@@ -161,55 +177,59 @@ ends_answer m n o sink le empty setting marks taken now = record {
   outcome = λ R printed J at. ap (λ (a : Answer). a.outcome) (at_budget m o le empty R printed J at);
   heap = λ R printed J at. ap (λ (a : Answer). a.world.now) (at_budget m o le empty R printed J at) ∙ sym now;
   fuel = λ R printed J at. let e = ap (λ (a : Answer). a.world.fuel) (at_budget m o le empty R printed J at) in omega (arith, e, taken);
-  put = λ R printed J at. ([], ap (λ (a : Answer). a.out) (at_budget m o le empty R printed J at), Puts-nil sink tt);
+  journal = λ R printed J at. ap (λ (a : Answer). a.world.journal) (at_budget m o le empty R printed J at);
+  put = λ R printed J at. ([], (ap (λ (a : Answer). a.out) (at_budget m o le empty R printed J at), (ap (λ (a : Answer). a.out) (at_taken m n o taken empty R printed J at), Puts-nil sink tt)));
 }
 
 -- ---- a run whose steps are spent
 
 -- it passes all frames, and the heap stays
 abbrev IsSpent : World → Answer → Type 0
-IsSpent w a = (v : World) × ((v.now ≡ w.now) × ((v.fuel ≡ w.fuel) × (a ≡ gives Spent v)))
+IsSpent w a = (v : World) × ((v.now ≡ w.now) × ((v.fuel ≡ w.fuel) × ((v.journal ≡ w.journal) × (a ≡ gives Spent v))))
 
 spent_frame : (p : Program) (part : Parts) (x : Frame) (w : World) → IsSpent w (resumed p part x (gives Spent w))
-spent_frame p part (frame.Value x) w = (w, (refl, (refl, refl)))
-spent_frame p part (frame.Call x) w = (w, (refl, (refl, refl)))
-spent_frame p part (frame.Loop (loop.Body l)) w = (w, (refl, (refl, refl)))
-spent_frame p part (frame.Loop (loop.Updates l)) w = (w, (refl, (refl, refl)))
-spent_frame p part (frame.Plain (plain.Rest ss next)) w = (w, (refl, (refl, refl)))
-spent_frame p part (frame.Plain (plain.FirstTurn l)) w = (w, (refl, (refl, refl)))
-spent_frame p part (frame.Plain (plain.Leave (end.Method t) this locals)) w = (record w { this = this; locals = locals; live = w.live - 1 }, (refl, (refl, refl)))
-spent_frame p part (frame.Plain (plain.Leave end.Constructor this locals)) w = (record w { this = this; locals = locals; live = w.live - 1 }, (refl, (refl, refl)))
-spent_frame p part (frame.Plain (plain.Catching ks)) w = (w, (refl, (refl, refl)))
-spent_frame p part (frame.Plain (plain.Finally s)) w = (w, (refl, (refl, refl)))
-spent_frame p part (frame.Plain (plain.Finished o)) w = (w, (refl, (refl, refl)))
-spent_frame p part (frame.Plain (plain.New o)) w = (w, (refl, (refl, refl)))
-spent_frame p part (frame.Plain (plain.Parent o maker)) w = (w, (refl, (refl, refl)))
-spent_frame p part (frame.Plain (plain.Fields o c next fields)) w = (w, (refl, (refl, refl)))
+spent_frame p part (frame.Value x) w = (w, (refl, (refl, (refl, refl))))
+spent_frame p part (frame.Call x) w = (w, (refl, (refl, (refl, refl))))
+spent_frame p part (frame.Loop (loop.Body l)) w = (w, (refl, (refl, (refl, refl))))
+spent_frame p part (frame.Loop (loop.Updates l)) w = (w, (refl, (refl, (refl, refl))))
+spent_frame p part (frame.Normal (normal.Rest ss)) w = (w, (refl, (refl, (refl, refl))))
+spent_frame p part (frame.Normal (normal.FirstTurn l)) w = (w, (refl, (refl, (refl, refl))))
+spent_frame p part (frame.Plain (plain.Leave (end.Method t) this locals)) w = (record w { this = this; locals = locals; live = w.live - 1 }, (refl, (refl, (refl, refl))))
+spent_frame p part (frame.Plain (plain.Leave end.Constructor this locals)) w = (record w { this = this; locals = locals; live = w.live - 1 }, (refl, (refl, (refl, refl))))
+spent_frame p part (frame.Plain (plain.Catching ks)) w = (w, (refl, (refl, (refl, refl))))
+spent_frame p part (frame.Plain (plain.Finally s)) w = (w, (refl, (refl, (refl, refl))))
+spent_frame p part (frame.Plain (plain.Finished o)) w = (w, (refl, (refl, (refl, refl))))
+spent_frame p part (frame.Normal (normal.New o)) w = (w, (refl, (refl, (refl, refl))))
+spent_frame p part (frame.Normal (normal.Parent o maker)) w = (w, (refl, (refl, (refl, refl))))
+spent_frame p part (frame.Normal (normal.Fields o c next fields)) w = (w, (refl, (refl, (refl, refl))))
 
 spent_all : (p : Program) (g : ℕ) (xs : List Frame) (make : Answer → Answer) → Stands p g xs make → (w : World) → IsSpent w (make (gives Spent w))
-spent_all p g [] make st w = (w, (refl, (refl, st (gives Spent w))))
+spent_all p g [] make st w = (w, (refl, (refl, (refl, st (gives Spent w)))))
 spent_all p g (x ∷ xs) make st w =
     let here = spent_frame p (meaning p st.0) x w in
     let rest = spent_all p g xs st.2 st.3 here.0 in
-    (rest.0, (rest.1.0 ∙ here.1.0, (rest.1.1.0 ∙ here.1.1.0, st.4 (gives Spent w) ∙ ap st.2 here.1.1.1 ∙ rest.1.1.1)))
+    (rest.0, (rest.1.0 ∙ here.1.0, (rest.1.1.0 ∙ here.1.1.0, (rest.1.1.1.0 ∙ here.1.1.1.0, st.4 (gives Spent w) ∙ ap st.2 here.1.1.1.1 ∙ rest.1.1.1.1))))
 
 ends_spent : (m : Point) (x : Focus) (sink : SinkState) → m.taken ≡ m.setting.budget → ((d : ℕ) (J : List Entry) → focused m.setting.program (meaning m.setting.program d) x (world m 0 J) ≡ gives Spent (world m 0 J)) → Ends m x sink m sink Spent
 ends_spent m x sink full spent = record {
   within = omega arith;
   setting = refl;
   marks = refl;
-  outcome = λ R printed J at. ap (λ (a : Answer). a.outcome) (whole R printed J at).1.1.1;
-  heap = λ R printed J at. ap (λ (a : Answer). a.world.now) (whole R printed J at).1.1.1 ∙ (whole R printed J at).1.0;
-  fuel = λ R printed J at. let e = ap (λ (a : Answer). a.world.fuel) (whole R printed J at).1.1.1 in let z = (whole R printed J at).1.1.0 in omega (arith, e, z, full);
-  put = λ R printed J at. ([], ap (λ (a : Answer). a.out) (whole R printed J at).1.1.1, Puts-nil sink tt);
+  outcome = λ R printed J at. ap (λ (a : Answer). a.outcome) (whole R printed J at).1.1.1.1;
+  heap = λ R printed J at. ap (λ (a : Answer). a.world.now) (whole R printed J at).1.1.1.1 ∙ (whole R printed J at).1.0;
+  fuel = λ R printed J at. let e = ap (λ (a : Answer). a.world.fuel) (whole R printed J at).1.1.1.1 in let z = (whole R printed J at).1.1.0 in omega (arith, e, z, full);
+  journal = λ R printed J at. ap (λ (a : Answer). a.world.journal) (whole R printed J at).1.1.1.1 ∙ (whole R printed J at).1.1.1.0;
+  put = λ R printed J at.
+      let out = ap (λ (a : Answer). a.out) (whole R printed J at).1.1.1.1 in
+      ([], (out, (ap (λ t. (R t J).out) full ∙ out, Puts-nil sink tt)));
 }
   where
-    whole : (R : Result) (printed : List ℕ) (J : List Entry) → At R m printed x → (v : World) × ((v.now ≡ m.now) × ((v.fuel ≡ 0) × (R m.setting.budget J ≡ after printed [] (gives Spent v))))
+    whole : (R : Result) (printed : List ℕ) (J : List Entry) → At R m printed x → (v : World) × ((v.now ≡ m.now) × ((v.fuel ≡ 0) × ((v.journal ≡ J) × (R m.setting.budget J ≡ after printed [] (gives Spent v)))))
     whole R printed J at =
         let G = at.gives 0 J in
         let e : m.setting.budget ≡ m.taken + 0 = omega (arith, full) in
         let s = spent_all m.setting.program _ m.frames G.make G.frames (world m 0 J) in
-        (s.0, (s.1.0, (s.1.1.0, ap (λ t. R t J) e ∙ G.same ∙ ap (λ a. after printed [] (G.make a)) (spent G.depth J) ∙ ap (after printed []) s.1.1.1)))
+        (s.0, (s.1.0, (s.1.1.0, (s.1.1.1.0, ap (λ t. R t J) e ∙ G.same ∙ ap (λ a. after printed [] (G.make a)) (spent G.depth J) ∙ ap (after printed []) s.1.1.1.1))))
 
 pub ends_expr : (m : Point) (e : Bor Expr) (sink : SinkState) → m.taken ≡ m.setting.budget → Ends m (focus.Expr e) sink m sink Spent
 ends_expr m e sink full = ends_spent m (focus.Expr e) sink full (λ d J. no_step_expr m.setting.program d e.now m J)
@@ -247,3 +267,35 @@ stops_print m bytes before now error le put = record {
 
 pub leads_self : (m : Point) (x : Focus) (sink : SinkState) → m.taken ≤ m.setting.budget → Leads m x sink m x sink
 leads_self m x sink le = leads m m x x sink refl refl le (λ R printed at. at)
+
+pub leads_on : (a b c : Point) (x y z : Focus) (first second third : SinkState) → Leads a x first b y second → Leads b y second c z third → Leads a x first c z third
+leads_on a b c x y z first second third f g = record {
+  more = f.more ++ g.more;
+  put = Puts-append first second third f.more g.more tt (Ok tt) f.put g.put;
+  on = λ R printed at. subst (λ out. At R c out z) (append_assoc printed f.more g.more) (g.on R (printed ++ f.more) (f.on R printed at));
+  setting = g.setting ∙ f.setting;
+  marks = g.marks ∙ f.marks;
+  within = g.within;
+}
+
+pub drives_end : (a b c : Point) (x y : Focus) (first second third : SinkState) (o : Outcome) → Leads a x first b y second → Ends b y second c third o → Ends a x first c third o
+drives_end a b c x y first second third o l e = record {
+  within = rw (sym l.setting) e.within;
+  setting = e.setting ∙ l.setting;
+  marks = e.marks ∙ l.marks;
+  outcome = λ R printed J at. ap (λ (s : Setting). (R s.budget J).outcome) (sym l.setting) ∙ e.outcome R (printed ++ l.more) J (l.on R printed at);
+  heap = λ R printed J at. ap (λ (s : Setting). (R s.budget J).world.now) (sym l.setting) ∙ e.heap R (printed ++ l.more) J (l.on R printed at);
+  fuel = λ R printed J at. subst (λ (s : Setting). (R s.budget J).world.fuel + c.taken ≡ s.budget) l.setting (e.fuel R (printed ++ l.more) J (l.on R printed at));
+  journal = λ R printed J at. ap (λ (s : Setting). (R s.budget J).world.journal) (sym l.setting) ∙ e.journal R (printed ++ l.more) J (l.on R printed at);
+  put = λ R printed J at.
+      let p = e.put R (printed ++ l.more) J (l.on R printed at) in
+      (l.more ++ p.0, (ap (λ (s : Setting). (R s.budget J).out) (sym l.setting) ∙ p.1.0 ∙ append_assoc printed l.more p.0, (p.1.1.0 ∙ append_assoc printed l.more p.0, Puts-append first second third l.more p.0 tt (Ok tt) l.put p.1.1.1)));
+}
+
+pub drives_early : (a b c : Point) (x y : Focus) (first second third : SinkState) (end : EarlyEnd) → Leads a x first b y second → Stops b y second c third end → Stops a x first c third end
+drives_early a b c x y first second third end l s = record {
+  within = rw (sym l.setting) s.within;
+  put = λ R printed J at.
+      let p = s.put R (printed ++ l.more) J (l.on R printed at) in
+      (l.more ++ p.0, (p.1.0, (p.1.1.0 ∙ append_assoc printed l.more (p.0 ++ p.1.0) ∙ ap (λ out. printed ++ out) (sym (append_assoc l.more p.0 p.1.0)), Puts-append first second third l.more p.0 tt (sink_answer end) l.put p.1.1.1)));
+}

@@ -1,23 +1,28 @@
 -- Internal: what the machine's frames make of the answer of the part that is being run, and how its functions go on.
-use Rattle.std.specs.Prelude.{◌≡◌, ◌==◌, ℕ, suc, pos, ◌+◌, ◌*◌, ◌≤◌, Bool, true, false, List, [], ◌∷◌, ◌++◌, length, drop, Option, Some, None, Result, Ok, Err, if◌then◌else◌}
+use Rattle.std.specs.Prelude.{◌≡◌, ◌==◌, ℕ, suc, pos, ◌+◌, ◌*◌, ◌≤◌, Bool, true, false, List, [], ◌∷◌, ◌++◌, length, drop, slice_get, Option, Some, None, Result, Ok, Err, if◌then◌else◌}
 use Rattle.core_tree.specs.declared.ty.Ty.{Ty}
+use Rattle.core_tree.specs.declared.operator.UpOp.{UpOp}
 use Rattle.core_tree.specs.declared.expr.Expr.{Expr}
+use Rattle.core_tree.specs.declared.stmt.Stmt.{Stmt}
+use Rattle.core_tree.specs.Typing.{chosen_number}
 use Rattle.core_tree.specs.declared.program.Field.{Field}
 use Rattle.core_tree.specs.declared.program.Maker.{Maker}
 use Rattle.core_tree.specs.declared.program.Program.{Program}
 use Rattle.heap_arena.specs.declared.cell.Cell.TheVariants as value
-use Rattle.heap_arena.specs.Heap.{Heap, Value}
+use Rattle.heap_arena.specs.Heap.{Heap, Value, cell_at, default_of}
 use Rattle.relation_bounds.specs.declared.journal.Entry.{Entry}
 use Rattle.evaluation.specs.declared.outcome.Outcome.{Outcome}
 use Rattle.evaluation.specs.declared.outcome.Outcome.TheVariants as outcome
 use Rattle.evaluation.specs.declared.place.Place.{Place}
+use Rattle.evaluation.specs.declared.place.Place.TheVariants as location
 use Rattle.evaluation.specs.World.{World, Answer, Run, gives, value_then, normal_then, ◌>>=◌, ◌>>◌}
 use Rattle.evaluation.specs.Values.{unary_value, binary_value, update_value, concatenated, text_length, text_equals}
-use Rattle.evaluation.specs.Objects.{field_types, make_instance, elements_at, value_fits, computed, read_place, write_local, write_cell, write_place, with_field, with_element, array_length, new_array, cast, is_instance, message_place}
-use Rattle.evaluation.specs.Calls.{Parts, Loop, block, arguments, invoke, dispatch, construct, initialise, initialise_class, returned, finished, leave}
+use Rattle.evaluation.specs.Objects.{field_types, make_instance, elements_at, class_at, value_fits, computed, read_place, write_local, write_cell, write_place, with_field, with_element, array_length, new_array, cast, is_instance, message_place}
+use Rattle.evaluation.specs.Calls.{Parts, Loop, called, block, arguments, invoke, dispatch, dispatch_in, build, construct, initialise, initialise_class, returned, finished, leave}
 use Rattle.evaluation.specs.Evaluate.{choose}
-use Rattle.evaluation.specs.Execute.{prints, print_value, throw, keeping, finally, update_place, after_body, turn, catching, meaning}
+use Rattle.evaluation.specs.Execute.{printed, prints, print_value, throw, keeping, finally, operand, update_place, after_body, turn, catching, meaning}
 use Rattle.std.specs.Option.{option_map_or}
+use Rattle.machine_frames.specs.declared.makers.Start.{Start}
 use Rattle.machine_frames.specs.declared.frame.ValueFrame.{ValueFrame}
 use Rattle.machine_frames.specs.declared.frame.ValueFrame.TheVariants as on
 use Rattle.machine_frames.specs.declared.frame.PlaceUse.{PlaceUse}
@@ -34,6 +39,8 @@ use Rattle.machine_frames.specs.declared.frame.LoopFrame.{LoopFrame}
 use Rattle.machine_frames.specs.declared.frame.LoopFrame.TheVariants as loop
 use Rattle.machine_frames.specs.declared.frame.CallEnd.{CallEnd}
 use Rattle.machine_frames.specs.declared.frame.CallEnd.TheVariants as end
+use Rattle.machine_frames.specs.declared.frame.NormalFrame.{NormalFrame}
+use Rattle.machine_frames.specs.declared.frame.NormalFrame.TheVariants as normal
 use Rattle.machine_frames.specs.declared.frame.PlainFrame.{PlainFrame}
 use Rattle.machine_frames.specs.declared.frame.PlainFrame.TheVariants as plain
 use Rattle.machine_frames.specs.declared.frame.Frame.{Frame}
@@ -104,7 +111,7 @@ used p part (on.WriteCell o at) v = write_cell o at v
 -- what is done with a value on the way to a call
 abbrev pub passed : Program → Parts → CallFrame → Value → Run
 passed p part (call.Receiver selector es) v = arguments p part es.now [] (called_with p part (callee.Chosen selector v))
-passed p part (call.Argument c es next got) v = arguments p part (drop next es.now) (got ++ v ∷ []) (called_with p part c)
+passed p part (call.Argument c es got) v = arguments p part es.now (got ++ v ∷ []) (called_with p part c)
 
 -- what a loop makes of the answer of a part
 abbrev pub repeated : Program → Parts → LoopFrame → Answer → Answer
@@ -120,22 +127,27 @@ ended end.Constructor = finished
 abbrev pub built : Program → Parts → ℕ → Maker → Run
 built p part o maker = initialise_class p part o maker.owner >> block p part maker.body
 
+-- what is done after Normal
+abbrev pub followed : Program → Parts → NormalFrame → Run
+followed p part (normal.Rest ss) = block p part ss.now
+followed p part (normal.FirstTurn l) = turn p part (loop_of l)
+followed p part (normal.New o) = gives (outcome.Value (value.Ref o))
+followed p part (normal.Parent o maker) = built p part o maker.now
+followed p part (normal.Fields o c next fields) = initialise p part o c next (drop next fields.now)
+
+-- what is done with any outcome
 abbrev pub plainly : Program → Parts → PlainFrame → Answer → Answer
-plainly p part (plain.Rest ss next) = normal_then (block p part (drop next ss.now))
-plainly p part (plain.FirstTurn l) = normal_then (turn p part (loop_of l))
 plainly p part (plain.Leave e this locals) = leave (ended e) this locals
 plainly p part (plain.Catching ks) = catching p part ks.now
 plainly p part (plain.Finally s) = finally (part.stmt s.now)
 plainly p part (plain.Finished o) = keeping o
-plainly p part (plain.New o) = normal_then (gives (outcome.Value (value.Ref o)))
-plainly p part (plain.Parent o maker) = normal_then (built p part o maker.now)
-plainly p part (plain.Fields o c next fields) = normal_then (initialise p part o c next (drop next fields.now))
 
 -- what a frame makes of an answer
 abbrev pub resumed : Program → Parts → Frame → Answer → Answer
 resumed p part (frame.Value x) = value_then (used p part x)
 resumed p part (frame.Call x) = value_then (passed p part x)
 resumed p part (frame.Loop x) = repeated p part x
+resumed p part (frame.Normal x) = normal_then (followed p part x)
 resumed p part (frame.Plain x) = plainly p part x
 
 -- what frames from the top make of an answer, all at one depth
@@ -211,11 +223,11 @@ entry_weight classes = 6 * (classes + 1) + 4
 -- the same of a frame on the way to a call
 abbrev pub frame_calling : ℕ → CallFrame → ℕ
 frame_calling classes (call.Receiver selector es) = 2
-frame_calling classes (call.Argument c es next got) = call_weight classes c
+frame_calling classes (call.Argument c es got) = call_weight classes c
 
 abbrev pub call_frame_weight : ℕ → CallFrame → ℕ
 call_frame_weight classes (call.Receiver selector es) = 4
-call_frame_weight classes (call.Argument c es next got) = 2 + call_weight classes c
+call_frame_weight classes (call.Argument c es got) = 2 + call_weight classes c
 
 abbrev pub frame_weight : ℕ → Frame → ℕ
 frame_weight classes (frame.Call x) = call_frame_weight classes x
@@ -271,13 +283,13 @@ abbrev pub made_then : Made → (ℕ → Run) → Run
 made_then (made.Object o) go = go o
 made_then (made.Ended o) go = gives o
 
--- from m to n an object is made, or the run ends
-pub record Makes (c : ℕ) (m n : Point) (object : Made) : Type 0 where
+-- from m to n an object is made in this way, or the run ends
+pub record Makes (way : (ℕ → Run) → Run) (m n : Point) (object : Made) : Type 0 where
   pub setting : n.setting ≡ m.setting
   pub taken : n.taken ≡ m.taken
   pub marks : n.marks ≡ m.marks
   pub frames : n.frames ≡ m.frames
-  pub same : (go : ℕ → Run) (f : ℕ) (J : List Entry) → make_instance m.setting.program c go (world m f J) ≡ made_then object go (world n f J)
+  pub same : (go : ℕ → Run) (f : ℕ) (J : List Entry) → way go (world m f J) ≡ made_then object go (world n f J)
 
 -- from m the machine goes on to n and the focus y, as a part goes on that does this
 pub record Moves (resumes : Bool) (node : Parts → Run) (m n : Point) (y : Focus) : Type 0 where
@@ -293,9 +305,13 @@ pub record Moves (resumes : Bool) (node : Parts → Run) (m n : Point) (y : Focu
 abbrev pub weight_of : Point → Focus → ℕ
 weight_of m y = frames_weight (length m.setting.program.classes) m.frames + focus_weight y
 
+-- from m the machine leaves at most this weight more
+abbrev pub Weighs : ℕ → Point → Point → Focus → Type 0
+Weighs most m n y = frames_weight (length m.setting.program.classes) n.frames + focus_weight y ≤ most + frames_weight (length m.setting.program.classes) m.frames
+
 -- from m the machine leaves no more than the weight of an outcome, and what is given beyond that
 abbrev pub IsLight : ℕ → Point → Point → Focus → Type 0
-IsLight more m n y = frames_weight (length m.setting.program.classes) n.frames + focus_weight y ≤ answer_weight + 1 + more + frames_weight (length m.setting.program.classes) m.frames
+IsLight more m n y = Weighs (answer_weight + 1 + more) m n y
 
 -- where memory ran out
 pub record Fails (m n : Point) : Type 0 where
@@ -323,37 +339,62 @@ module _ {S : Type 0} (now : S → Heap) (marks : S → List Heap) (fields : S �
 abbrev pub HasFields : Point → Type 0
 HasFields m = m.setting.fields ≡ field_types m.setting.program
 
--- ---- outcomes
+-- ---- what functions of the machine do, beside what the reference evaluation has names for
 
--- the outcome of a look-up
-abbrev pub found_outcome : Option Value → Outcome
-found_outcome None = outcome.Stuck
-found_outcome (Some v) = outcome.Value v
+-- the value at a place
+abbrev pub place_value : List Value → Heap → Place → Option Value
+place_value locals now (location.Local at) = slice_get locals at
+place_value locals now (location.Cell o at) = cell_at now o at
 
 -- a value may be stored in a cell of the object: an array takes objects that fit its elements
 abbrev pub may_store : Program → Heap → ℕ → Value → Bool
 may_store p h o v = option_map_or (λ t. value_fits p h v t) (elements_at h o) true
 
--- the outcome of counting the elements of an array
-abbrev pub counted : Option ℕ → Outcome
-counted None = outcome.Stuck
-counted (Some n) = outcome.Value (value.Int (pos n))
+-- a compound assignment whose operands are there
+abbrev pub updated : Program → UpOp → Value → Place → Value → Run
+updated p op old place v = computed p (update_value op old v) >>= (λ new. write_place p place new)
 
--- the object that `this` is
-abbrev pub this_outcome : Option ℕ → Outcome
-this_outcome None = outcome.Stuck
-this_outcome (Some o) = outcome.Value (value.Ref o)
+-- a compound assignment whose old value is there
+abbrev pub updated_with : Program → Parts → UpOp → Value → Place → Option Expr → Run
+updated_with p part op old place e = operand p part e >>= updated p op old place
 
--- where the second of two outcomes is Normal, the first stands
-abbrev pub kept_outcome : Outcome → Outcome → Outcome
-kept_outcome earlier outcome.Normal = earlier
-kept_outcome earlier o = o
+-- a choice between two statements
+abbrev pub chosen : Parts → Value → Stmt → Option Stmt → Run
+chosen part x s other = choose x (part.stmt s) (option_map_or part.stmt other (gives outcome.Normal))
 
--- ---- constructors
+-- the updates of a loop and a further turn
+abbrev pub next_turn : Program → Parts → Loop → Run
+next_turn p part l = block p part l.updates >> part.loop l
+
+-- a declaration of a local
+abbrev pub declared : Parts → ℕ → Ty → Option Expr → Run
+declared part at t e = option_map_or (λ e. part.expr e >>= write_local at) e (write_local at (default_of t))
+
+-- a print
+abbrev pub print_of : Parts → Bool → Option Expr → Run
+print_of part line e = option_map_or (λ e. part.expr e >>= print_value line) e (prints (printed line []))
+
+-- a `return`
+abbrev pub return_of : Parts → Option Expr → Run
+return_of part e = option_map_or (λ e. part.expr e >>= (λ v. gives (outcome.Return (Some v)))) e (gives (outcome.Return None))
+
+-- the statements before the first turn of a loop, and then the loop
+abbrev pub first_then : Program → Parts → List Stmt → LoopParts → Run
+first_then p part first l = block p part first >> turn p part (loop_of l)
+
+-- a call on the object at a position
+abbrev pub dispatch_at : Program → Parts → ℕ → ℕ → List Value → Run
+dispatch_at p part selector o args w = option_map_or (λ c. dispatch_in p part selector o args (chosen_number p c selector) w) (class_at w.now o) (gives outcome.Stuck w)
+
+-- the body of a constructor for which so many superclasses may come
+abbrev pub run_maker : Program → Parts → ℕ → Maker → ℕ → List Value → Run
+run_maker p part levels maker o args = called p finished (Some o) args maker.locals (build p part (construct p part levels) o maker)
 
 -- the message of a new object, whose value the object is
 abbrev pub messaged : Parts → ℕ → Option Expr → Run
 messaged part o message = option_map_or (λ e. part.expr e >>= (λ v. write_cell o message_place v)) message (gives outcome.Normal) >> gives (outcome.Value (value.Ref o))
+
+-- ---- field initialisers
 
 -- a field with its initialiser
 pub record FieldStart : Type 0 where
@@ -368,6 +409,10 @@ initialiser_in c field = if field.owner == c then field.start else None
 abbrev pub next_start : ℕ → ℕ → List Field → Option FieldStart
 next_start c at [] = None
 next_start c at (field ∷ fields) = option_map_or (λ e. Some (record { at = at; value = e })) (initialiser_in c field) (next_start c (suc at) fields)
+
+-- what the machine keeps of a field with its initialiser
+abbrev pub start_of : Start → FieldStart
+start_of start = record { at = start.at; value = start.value.now }
 
 -- an initialiser, then those behind it
 abbrev pub started : Program → Parts → ℕ → ℕ → ℕ → Expr → List Field → Run

@@ -68,7 +68,7 @@ pub record Leads (m : Point) (x : Focus) (before : SinkState) (n : Point) (y : F
   pub within : n.taken ≤ n.setting.budget
 
 -- each run that comes by this point, with the budget as its steps, ends with this outcome and in the heap of now, it has
--- so many steps left, and its output was put
+-- so many steps and all answers left, and its output, which is that of a run with just the steps taken, was put
 pub record Ends (m : Point) (x : Focus) (before : SinkState) (n : Point) (now : SinkState) (o : Outcome) : Type 0 where
   pub within : n.taken ≤ m.setting.budget
   pub setting : n.setting ≡ m.setting
@@ -76,7 +76,8 @@ pub record Ends (m : Point) (x : Focus) (before : SinkState) (n : Point) (now : 
   pub outcome : (R : ℕ → List Entry → Answer) (printed : List ℕ) (J : List Entry) → At R m printed x → (R m.setting.budget J).outcome ≡ o
   pub heap : (R : ℕ → List Entry → Answer) (printed : List ℕ) (J : List Entry) → At R m printed x → (R m.setting.budget J).world.now ≡ n.now
   pub fuel : (R : ℕ → List Entry → Answer) (printed : List ℕ) (J : List Entry) → At R m printed x → (R m.setting.budget J).world.fuel + n.taken ≡ m.setting.budget
-  pub put : (R : ℕ → List Entry → Answer) (printed : List ℕ) (J : List Entry) → At R m printed x → (more : List ℕ) × ((R m.setting.budget J).out ≡ printed ++ more) × Puts before now more {T = Unit {0}} (Ok tt)
+  pub journal : (R : ℕ → List Entry → Answer) (printed : List ℕ) (J : List Entry) → At R m printed x → (R m.setting.budget J).world.journal ≡ J
+  pub put : (R : ℕ → List Entry → Answer) (printed : List ℕ) (J : List Entry) → At R m printed x → (more : List ℕ) × ((R m.setting.budget J).out ≡ printed ++ more) × ((R n.taken J).out ≡ printed ++ more) × Puts before now more {T = Unit {0}} (Ok tt)
 
 -- what the sink answered to the puts of a machine that stopped early
 abbrev pub sink_answer : EarlyEnd → Result (Unit {0}) PutError
@@ -100,6 +101,14 @@ abbrev pub Steps : Point → Focus → SinkState → Point → SinkState → Res
 Steps m x before n now (Ok (next.On y)) = Leads m x before n y now × (work n y < work m x)
 Steps m x before n now (Ok (next.End o)) = Ends m x before n now o
 Steps m x before n now (Err end) = Stops m x before n now end
+
+-- the same, whatever the sink is, which no call reaches
+abbrev pub StepsAlone : Point → Focus → Point → Result Next EarlyEnd → Type 0
+StepsAlone m x n end = (sink : SinkState) → Steps m x sink n sink end
+
+-- the machine goes on with an outcome, a frame having been taken off
+abbrev pub Resumes : Frame → Outcome → Point → Point → Focus → Type 0
+Resumes x o m n y = (m0 : Point) (sink : SinkState) → m0 ≡ record m { frames = x ∷ m.frames } → Leads m0 (focus.Answer o) sink n y sink × (work n y < work m0 (focus.Answer o))
 
 -- steps to the end
 abbrev pub Drives : Point → Focus → SinkState → Point → SinkState → Result Outcome EarlyEnd → Type 0

@@ -1,5 +1,9 @@
 //! What the machine keeps between its steps. None of it is public.
 
+ghost use Rattle.std.specs.Prelude.{◌≡◌};
+ghost use Rattle.machine_frames.specs.Frames.{ended};
+
+use crate::calls::default_of;
 use core_tree::{BinOp, Catch, Expr, Field, Maker, OutOfMemory, Stmt, Ty, UnOp, UpOp};
 use evaluation::{Outcome, Place};
 use heap_arena::Cell;
@@ -109,9 +113,9 @@ pub enum Callee {
 #[derive(Drop)]
 pub enum CallFrame<'p> {
     /// It is the object of a call with this selector, and the arguments come next.
-    Receiver(u32, &'p Items<Expr>),
-    /// It is an argument: those before it are here, and the next one is at this place.
-    Argument(Callee, &'p Items<Expr>, usize, Items<Cell<u32>>),
+    Receiver(u32, &'p [Expr]),
+    /// It is an argument: those that come next, and those before it.
+    Argument(Callee, &'p [Expr], Items<Cell<u32>>),
 }
 
 /// A loop.
@@ -140,25 +144,30 @@ pub enum CallEnd<'p> {
     Constructor,
 }
 
-/// What is done with the outcome of a part.
+/// What is done after a part that ended normally.
+#[derive(Drop)]
+pub enum NormalFrame<'p> {
+    /// These statements.
+    Rest(&'p [Stmt]),
+    /// The first turn of a loop.
+    FirstTurn(LoopParts<'p>),
+    /// The value is the new object at this position.
+    New(u32),
+    /// The object's field initialisers and the constructor's body.
+    Parent(u32, &'p Maker),
+    /// The initialisers of the object's fields that the class declares, from this place on.
+    Fields(u32, u32, usize, &'p Items<Field>),
+}
+
+/// What is done with any outcome of a part.
 #[derive(Drop)]
 pub enum PlainFrame<'p> {
-    /// After Normal the statements from this place on.
-    Rest(&'p Items<Stmt>, usize),
-    /// After Normal the first turn of a loop.
-    FirstTurn(LoopParts<'p>),
     /// The caller's `this` and locals are there again.
     Leave(CallEnd<'p>, Option<u32>, Items<Cell<u32>>),
     Catching(&'p Items<Catch>),
     Finally(&'p Boxed<Stmt>),
     /// After Normal this outcome.
     Finished(Outcome),
-    /// After Normal the value is the object at this position.
-    New(u32),
-    /// After Normal the object's field initialisers and the constructor's body.
-    Parent(u32, &'p Maker),
-    /// After Normal the object's field initialisers from this place on, of fields that the class declares.
-    Fields(u32, u32, usize, &'p Items<Field>),
 }
 
 /// What is done with the outcome of the part that is being run.
@@ -169,6 +178,8 @@ pub enum Frame<'p> {
     /// With a value this; every other outcome stands.
     Call(CallFrame<'p>),
     Loop(LoopFrame<'p>),
+    /// With Normal this; every other outcome stands.
+    Normal(NormalFrame<'p>),
     Plain(PlainFrame<'p>),
 }
 
@@ -204,6 +215,38 @@ pub enum EarlyEnd {
     OutOfMemory,
     /// The sink refused a call.
     Refused(PutError),
+}
+
+impl CallEnd<'_> {
+    /// What a call gives where its body ends so: a body that falls off its end gives the default of the result's type.
+    pub fn outcome(&self, o: Outcome) -> Outcome
+        ensures { result ≡ ended self.entry.now o }
+    {
+        match self {
+            CallEnd::Method(answer) => match o {
+                Outcome::Normal | Outcome::Return(None) => Outcome::Value(default_of(answer)),
+                Outcome::Return(Some(v)) => Outcome::Value(v),
+                Outcome::Value(_)
+                | Outcome::Break
+                | Outcome::Continue
+                | Outcome::Throw(_)
+                | Outcome::Spent
+                | Outcome::Full(_)
+                | Outcome::Stuck => o,
+            },
+            CallEnd::Constructor => match o {
+                Outcome::Return(_) => Outcome::Normal,
+                Outcome::Value(_)
+                | Outcome::Normal
+                | Outcome::Break
+                | Outcome::Continue
+                | Outcome::Throw(_)
+                | Outcome::Spent
+                | Outcome::Full(_)
+                | Outcome::Stuck => o,
+            },
+        }
+    }
 }
 
 impl From<OutOfMemory> for EarlyEnd {

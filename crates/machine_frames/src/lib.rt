@@ -10,13 +10,34 @@
 //! Read `frame`, `running`, then `specs/Frames` and `specs/Points`.
 #![tactic(auto)]
 
+mod arguments;
+mod blocks;
+mod calls;
+mod cells;
+mod exceptions;
+mod expressions;
 mod frame;
+mod locals;
+mod machine;
+mod makers;
+mod making;
+mod objects;
+mod operators;
+mod places;
+mod printing;
+mod resume;
+mod run;
 mod running;
 mod stack;
+mod statements;
+mod step;
+mod stop;
 
 pub use frame::{
-    CallEnd, CallFrame, Callee, EarlyEnd, Focus, Frame, LoopFrame, LoopParts, Made, Next, PlaceUse,
-    PlainFrame, ValueFrame,
+    CallEnd, CallFrame, Callee, EarlyEnd, Focus, Frame, LoopFrame, LoopParts, Made, Next,
+    NormalFrame, PlaceUse, PlainFrame, ValueFrame,
 };
+pub use machine::Machine;
 pub use running::Running;
+pub use stop::RunStop;
 pub use stack::Stack;

@@ -2,7 +2,7 @@
 
 ghost use Rattle.std.specs.Prelude.{IfOk, OnOk, OnErr, false};
 ghost use Rattle.evaluation.specs.World.{value_then};
-ghost use Rattle.machine_frames.specs.Frames.{point, used, Pushes, Moves, IsLight, Fails};
+ghost use Rattle.machine_frames.specs.Frames.{point, used, Pushes, Moves, Weighs, Fails};
 
 use crate::frame::{Focus, Frame, ValueFrame};
 use crate::stack::Stack;
@@ -45,7 +45,7 @@ impl<'p, S: Store + Drop> Running<'p, S> {
         ensures ok { IfOk result (λ y. Moves false
             (λ part w. value_then (used self.old.program.now part frame.entry) (part.expr e.now w))
             (point S.now S.marks S.field_types self.old) (point S.now S.marks S.field_types self.new) y) }
-        ensures light { IfOk result (λ y. IsLight 0
+        ensures light { IfOk result (λ y. Weighs 2
             (point S.now S.marks S.field_types self.old) (point S.now S.marks S.field_types self.new) y) }
         ensures err { OnErr result (Fails
             (point S.now S.marks S.field_types self.old) (point S.now S.marks S.field_types self.new)) }

@@ -1,0 +1,87 @@
+//! The machine as callers see it.
+
+ghost use Rattle.std.specs.Prelude.{◌≡◌, ◌≤◌, MatchOption, Some, [], map};
+ghost use Rattle.core_tree.specs.WellTyped.{IsWellTyped};
+ghost use Rattle.pb_io.specs.Faults.{Rose};
+ghost use Rattle.pb_io.specs.Sink.{NoFewer};
+ghost use Rattle.evaluation.specs.Run.{run};
+ghost use Rattle.machine_frames.specs.declared.stop.RunStop.TheVariants as stop;
+ghost use Rattle.machine_frames.specs.Machine.{text_of, EndsAs, Finishes, IsFresh};
+
+use crate::run::run_main;
+use crate::stop::RunStop;
+use core_tree::Program;
+use heap_arena::Store;
+use pb_io::Sink;
+use std::alloc::Global;
+
+/// The machine over a store: it runs a program once, with explicit frames and no recursion.
+#[derive(Drop)]
+pub struct Machine<S> {
+    alloc: Global,
+    store: Option<S>,
+    steps_taken: u64,
+}
+
+impl<S: Store + Drop> Machine<S> {
+    /// A machine that has taken no step, over this store. It takes no memory.
+    pub fn new(alloc: Global, store: S) -> Machine<S>
+        ensures store { result.store ≡ Some store }
+        ensures steps { result.steps_taken ≡ 0 }
+    {
+        Machine {
+            alloc,
+            store: Some(store),
+            steps_taken: 0,
+        }
+    }
+
+    /// Runs the program with these arguments and a budget of steps. What it prints goes into the sink, a put for each print,
+    /// and it asks for no flush. An argument of more than 1,048,576 code units is `Full(Text)` before the first step.
+    ///
+    /// Every stop but the last two is that of the reference evaluation with this budget, and its output is whole; after
+    /// `Done` and `Uncaught` the store holds the heap that it left. `OutOfMemory`, which may come at any point, and
+    /// `WriteFault` leave a prefix of what a run with the steps taken prints. No mark stands at the end.
+    pub fn run<O: Sink>(
+        &mut self,
+        program: &Program,
+        args: &[String],
+        steps: u64,
+        sink: &mut O,
+    ) -> RunStop
+        requires well_typed { IsWellTyped program.now }
+        requires fresh { MatchOption self.old.store ⊥ (λ store.
+            IsFresh program.now (S.now store) (S.marks store) (S.field_types store)) }
+        ensures run { EndsAs program.now (map text_of args.now) steps (O.state sink.old) (O.state sink.new)
+            self.new.steps_taken result }
+        ensures within { self.new.steps_taken ≤ steps }
+        ensures heap { Finishes result → MatchOption self.new.store ⊥ (λ store.
+            S.now store ≡ (run program.now (map text_of args.now) steps []).world.now) }
+        ensures marks { Finishes result → MatchOption self.new.store ⊥ (λ store. S.marks store ≡ []) }
+        ensures flushed { NoFewer (O.state sink.old).flushed (O.state sink.new).flushed }
+        ensures later { (O.state sink.old).faults ≤ (O.state sink.new).faults }
+        ensures cause { result ≡ stop.WriteFault → Rose (O.state sink.old).faults (O.state sink.new).faults }
+    {
+        let Some(store) = self.store.take() else {
+            unreachable!()
+        };
+        let ended = run_main(self.alloc, program, store, args, steps, sink);
+        self.store = Some(ended.store);
+        self.steps_taken = ended.taken;
+        ended.stop
+    }
+
+    /// How many steps the run took: the nodes that were entered.
+    pub fn steps_taken(&self) -> u64
+        ensures { result ≡ self.now.steps_taken }
+    {
+        self.steps_taken
+    }
+
+    /// The store, with the heap that the run left.
+    pub fn into_store(self) -> Option<S>
+        ensures { result ≡ self.store }
+    {
+        self.store
+    }
+}

@@ -51,7 +51,10 @@ fn one_class(alloc: Global) -> Result<FileTree, AllocError> {
         parent: None,
         members,
     })?;
-    Ok(FileTree { classes })
+    Ok(FileTree {
+        classes,
+        places: Items::new(alloc),
+    })
 }
 
 #[test]
@@ -76,6 +79,7 @@ fn no_class_has_no_main(rt: HostRuntime) -> Result<(), Fail> {
     let alloc = rt.alloc();
     let tree = FileTree {
         classes: Items::new(alloc),
+        places: Items::new(alloc),
     };
     let want = Fault { rule: 7, at: 0 };
     match table(alloc, &tree) {

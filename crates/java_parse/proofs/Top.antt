@@ -4,21 +4,24 @@ use Rattle.java_tokens.specs.declared.token.Token.{Token}
 use Rattle.java_syntax.specs.declared.class.FileTree.{FileTree}
 use Rattle.java_syntax.specs.Lexeme.{Lexeme, numbered}
 use Rattle.java_syntax.specs.Height.{file_height}
-use Rattle.java_syntax.specs.Spells.{Spells}
+use Rattle.java_syntax.specs.Spells.{places_of, Spells}
 use Rattle.java_reading.specs.Outcome.{no_tree, too_high}
 use Rattle.java_reading.specs.ReadClass.{file}
 use Rattle.java_reading.proofs.FileWhole.{one_file, gives_files, refuses_files, refuses_high_files, file_height_is_least}
 use Rattle.java_reading.proofs.Tests.{from_below, from_not_below}
 use Rattle.java_parse.specs.Answer.{IsOnlyTree, SpellsNothing, SpellsHighOnes}
 
-pub spelled : (tokens : List Token) (t : FileTree) (rest : List Lexeme) → file 200 (numbered 0 tokens) ≡ Ok (t, rest) → Spells t tokens
-spelled tokens t rest is = (200, (gives_files 200 t tokens rest is).0)
+pub spelled : (tokens : List Token) (t : FileTree) (rest : List Lexeme) → file 200 (numbered 0 tokens) ≡ Ok (t.classes, rest)
+    → t.places ≡ places_of tokens → Spells t tokens
+spelled tokens t rest is places = (200, (gives_files 200 t tokens rest is places).0)
 
-pub low : (tokens : List Token) (t : FileTree) (rest : List Lexeme) → file 200 (numbered 0 tokens) ≡ Ok (t, rest) → file_height t ≤ 200
-low tokens t rest is = (file_height_is_least 200 t tokens (gives_files 200 t tokens rest is).0).0
+pub low : (tokens : List Token) (t : FileTree) (rest : List Lexeme) → file 200 (numbered 0 tokens) ≡ Ok (t.classes, rest)
+    → t.places ≡ places_of tokens → file_height t ≤ 200
+low tokens t rest is places = (file_height_is_least 200 t tokens (gives_files 200 t tokens rest is places).0).0
 
-pub only : (tokens : List Token) (t : FileTree) (rest : List Lexeme) → file 200 (numbered 0 tokens) ≡ Ok (t, rest) → IsOnlyTree t tokens
-only tokens t rest is = λ d s. one_file d t tokens s (spelled tokens t rest is)
+pub only : (tokens : List Token) (t : FileTree) (rest : List Lexeme) → file 200 (numbered 0 tokens) ≡ Ok (t.classes, rest)
+    → t.places ≡ places_of tokens → IsOnlyTree t tokens
+only tokens t rest is places = λ d s. one_file d t tokens s (spelled tokens t rest is places)
 
 pub nothing : (tokens : List Token) → file 200 (numbered 0 tokens) ≡ Err no_tree → SpellsNothing tokens
 nothing tokens is = λ t s. refuses_files 200 t tokens is s

@@ -12,7 +12,7 @@ ghost use Rattle.java_parse.specs.Reads.{Reads};
 use crate::member::member;
 use crate::refusal::Refusal;
 use crate::tokens::Tokens;
-use java_syntax::{ClassTree, FileTree, Ident, Member};
+use java_syntax::{ClassTree, Ident, Member};
 use java_tokens::{Keyword, Operator, TokenKind};
 use sqlite_items::Items;
 use std::alloc::Global;
@@ -103,15 +103,15 @@ fn classes(alloc: Global, tokens: &mut Tokens<'_>, most: u32) -> Result<Items<Cl
     Err(Refusal::NoTree)
 }
 
-/// A file of at most this height, behind which nothing stands (JLS 7.3).
+/// The classes of a file of at most this height, behind which nothing stands (JLS 7.3).
 #[tactic(auto, unfolding(java_reading::specs::ReadClass::file))]
-pub fn file(alloc: Global, tokens: &mut Tokens<'_>, most: u32) -> Result<FileTree, Refusal>
+pub fn file(alloc: Global, tokens: &mut Tokens<'_>, most: u32) -> Result<Items<ClassTree>, Refusal>
     requires { most ≤ 200 }
     ensures { Reads (spec.file most tokens.old) result tokens.new }
 {
     let classes = classes(alloc, tokens, most)?;
     match tokens.peek() {
-        None => Ok(FileTree { classes }),
+        None => Ok(classes),
         Some(_) => Err(Refusal::NoTree),
     }
 }

@@ -5,6 +5,7 @@ ghost use Rattle.java_parse.specs.Answer.{IsOnlyTree, HasCause};
 
 use crate::class::file;
 use crate::error::ParseError;
+use crate::places::places;
 use crate::refusal::Refusal;
 use crate::tokens::Tokens;
 use java_syntax::FileTree;
@@ -16,9 +17,9 @@ const MAX_HEIGHT: u32 = 200;
 
 /// The tree of a source file, from its tokens with that of the end as the last (JLS 7.3).
 ///
-/// The tree spells the tokens and has a height of at most 200 nodes, and no other tree spells them. `Syntax` comes only
-/// where no tree does, `TooDeep` only where none of that height does and there are at least 200 tokens, and
-/// `OutOfMemory` for any tokens. There are fewer than 2^32 tokens.
+/// The tree spells the tokens, has their places and a height of at most 200 nodes, and no other tree spells them.
+/// `Syntax` comes only where no tree does, `TooDeep` only where none of that height does and there are at least 200
+/// tokens, and `OutOfMemory` for any tokens. There are fewer than 2^32 tokens.
 pub fn parse(alloc: Global, tokens: &[Token]) -> Result<FileTree, ParseError>
     requires { length tokens.now < 2 ^ 32 }
     ensures spells { IfOk result (λ tree. Spells tree tokens.now) }
@@ -28,7 +29,10 @@ pub fn parse(alloc: Global, tokens: &[Token]) -> Result<FileTree, ParseError>
 {
     let mut rest = Tokens::new(tokens);
     match file(alloc, &mut rest, MAX_HEIGHT) {
-        Ok(tree) => Ok(tree),
+        Ok(classes) => Ok(FileTree {
+            classes,
+            places: places(alloc, tokens)?,
+        }),
         Err(Refusal::NoTree) => {
             let taken = tokens.len().saturating_sub(rest.left());
             Err(ParseError::Syntax(taken as u32))

@@ -1,3 +1,4 @@
+use std::alloc::AllocError;
 use thiserror::Error;
 
 /// Why tokens are no tree of a source file.
@@ -13,4 +14,15 @@ pub enum ParseError {
     /// Memory ran out. It may come for any tokens.
     #[error("out of memory")]
     OutOfMemory,
+}
+
+impl From<AllocError> for ParseError {
+    ghost use Rattle.std.specs.Prelude.{◌≡◌};
+    ghost use Rattle.java_parse.specs.declared.error.ParseError.TheVariants.{OutOfMemory};
+
+    ghost from_gives = { λ _ error. error ≡ OutOfMemory };
+
+    fn from(_: AllocError) -> ParseError {
+        ParseError::OutOfMemory
+    }
 }

@@ -5,7 +5,7 @@
 //! function of java_reading gives on the same tokens (`specs/Reads`); what these find is proved there.
 //!
 //! Read `tokens`, `lookahead`, `types`, `infix`, `grammar`, `prefix`, `climb`, `signs`, `simple`, `statements`,
-//! `statement`, `clauses`, `header`, `member`, `class`, then `entry`.
+//! `statement`, `clauses`, `header`, `member`, `class`, `places`, then `entry`.
 #![tactic(auto)]
 
 mod class;
@@ -19,6 +19,7 @@ mod infix;
 mod lookahead;
 mod member;
 mod nodes;
+mod places;
 mod prefix;
 mod refusal;
 #[cfg(test)]

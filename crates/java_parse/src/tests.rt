@@ -4,7 +4,7 @@ use crate::rows::{
     OPERATIONS, PRIMARIES,
 };
 use crate::{ParseError, parse};
-use java_syntax::{BinaryOp, Expr, FileTree, Member, Stmt};
+use java_syntax::{BinaryOp, Expr, FileTree, Member, Stmt, TokenPlace};
 use java_tokens::tokens;
 use std::alloc::{AllocError, Global};
 use std::process::Abort;
@@ -313,5 +313,30 @@ fn heights(rt: HostRuntime) -> Result<(), Fail> {
     for (pairs, want) in [(196, "tree"), (197, "too deep"), (300, "too deep")] {
         assert_eq!(rt; nested(alloc, pairs)?, want, "{pairs} pairs of parentheses");
     }
+    Ok(())
+}
+
+fn place(line: u32, column: u32) -> TokenPlace {
+    TokenPlace { line, column }
+}
+
+/// A line ends at a line feed or at a carriage return with one, and a column counts characters, not bytes.
+#[test]
+fn places_of_tokens(rt: HostRuntime) -> Result<(), Fail> {
+    let text = "class A {\n  String s =\r\n\"é𝄞\" ;\n}";
+    let tree = tree(rt.alloc(), text)?.ok_or("no tree")?;
+    let want = [
+        place(1, 1),
+        place(1, 7),
+        place(1, 9),
+        place(2, 3),
+        place(2, 10),
+        place(2, 12),
+        place(3, 1),
+        place(3, 6),
+        place(4, 1),
+        place(4, 2),
+    ];
+    assert_eq!(rt; tree.places.as_slice(), want.as_slice());
     Ok(())
 }

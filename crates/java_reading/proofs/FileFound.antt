@@ -5,7 +5,6 @@ use Rattle.java_tokens.specs.declared.token.Keyword.TheVariants as word
 use Rattle.java_tokens.specs.declared.token.Operator.TheVariants as o
 use Rattle.java_tokens.specs.declared.token.TokenKind.TheVariants as k
 use Rattle.java_syntax.specs.declared.class.ClassTree.{ClassTree}
-use Rattle.java_syntax.specs.declared.class.FileTree.{FileTree}
 use Rattle.java_syntax.specs.declared.class.Member.{Member}
 use Rattle.java_syntax.specs.declared.name.Ident.{Ident}
 use Rattle.java_syntax.specs.Lexeme.{Lexeme, Then, same_operator, same_keyword}
@@ -117,8 +116,7 @@ module _ (facts : ExprFacts) (args_facts : ArgsFacts) (n b : ℕ) where
       let h = classes_or more fuel (done ++ t ∷ []) w.0 rest (omega arith) w.2 in
       rw (class_no_end n t xs w.0 w.1) (or_then _ (class_found facts args_facts n b t xs w.0 w.1) (rw append_assoc at h))
 
-  -- A file that is written is found, or it is higher than the budget.
-  pub file_found : (t : FileTree) (xs : List Lexeme) → FileWithin n t xs → Or n b (file b xs) (Ok (t, []))
+  -- The classes of a file that is written are found, or it is higher than the budget.
+  pub file_found : (all : List ClassTree) (xs : List Lexeme) → FileWithin n all xs → Or n b (file b xs) (Ok (all, []))
   unfolding file
-  file_found t xs w =
-      or_then _ (classes_or t.classes (length xs) [] xs [] (omega (arith, classes_length facts n t.classes xs [] w)) w) (found refl)
+  file_found all xs w = or_then _ (classes_or all (length xs) [] xs [] (omega (arith, classes_length facts n all xs [] w)) w) (found refl)

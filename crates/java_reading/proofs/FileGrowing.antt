@@ -31,7 +31,7 @@ classes_low : (n : ℕ) (all : List ClassTree) (xs rest : List Lexeme) → Class
 classes_low n [] xs rest w = omega arith
 classes_low n (t ∷ more) xs rest w = omega (arith, class_low n t xs w.0 w.1, classes_low n more w.0 rest w.2)
 
-pub file_at_most : (n : ℕ) (t : FileTree) (xs : List Lexeme) → FileWithin n t xs → file_height t ≤ n
+pub file_at_most : (n : ℕ) (t : FileTree) (xs : List Lexeme) → FileWithin n t.classes xs → file_height t ≤ n
 file_at_most n t xs w = classes_low n t.classes xs [] w
 
 -- ---- with each number that is no less than its height
@@ -78,5 +78,5 @@ classes_fit : (n m : ℕ) (all : List ClassTree) (xs rest : List Lexeme) → hig
 classes_fit n m [] xs rest low w = w
 classes_fit n m (t ∷ more) xs rest low w = (w.0, class_fit n m t xs w.0 (omega arith) w.1, classes_fit n m more w.0 rest (omega arith) w.2)
 
-pub file_fit : (n m : ℕ) (t : FileTree) (xs : List Lexeme) → file_height t ≤ m → FileWithin n t xs → FileWithin m t xs
+pub file_fit : (n m : ℕ) (t : FileTree) (xs : List Lexeme) → file_height t ≤ m → FileWithin n t.classes xs → FileWithin m t.classes xs
 file_fit n m t xs low w = classes_fit n m t.classes xs [] low w

@@ -11,7 +11,7 @@ use Rattle.java_syntax.specs.Lexeme.{Lexeme, lexeme, Then, sees, sees_word}
 use Rattle.java_syntax.specs.Classes.{MemberWithin, Public, Extends, Members, IsClass, ClassWithin}
 use Rattle.java_syntax.specs.Spells.{ClassesWithin, FileWithin}
 use Rattle.java_reading.specs.ReadType.{next}
-use Rattle.java_reading.specs.ReadClass.{member, public, extends, class_of, members, class_node, class, is_end, sees_end, classes, file_of, whole, file}
+use Rattle.java_reading.specs.ReadClass.{member, public, extends, class_of, members, class_node, class, is_end, sees_end, classes, whole, file}
 use Rattle.java_reading.proofs.ArgsFacts.{ArgsFacts}
 use Rattle.java_reading.proofs.ExprFacts.{ExprFacts}
 use Rattle.java_reading.proofs.MemberSound.{member_sound}
@@ -93,12 +93,12 @@ module _ (facts : ExprFacts) (args_facts : ArgsFacts) (n : ℕ) where
       (λ h. omega (arith, w.1)) (classes_from fuel (done ++ a ∷ []) ys)))
 
   whole_gives : (xs : List Lexeme) (all : List ClassTree) (ys : List Lexeme) → ClassesWithin n all xs ys
-      → Gives (λ t rest. FileWithin n t xs × (rest ≡ [])) (n ≤ length xs) (whole all ys)
-  whole_gives xs all [] w = gives (file_of all) [] (w, refl)
+      → Gives (λ all rest. FileWithin n all xs × (rest ≡ [])) (n ≤ length xs) (whole all ys)
+  whole_gives xs all [] w = gives all [] (w, refl)
   whole_gives xs all (y ∷ ys) w = gives_none
 
   -- A file that is read is written; with a budget that is too small there are as many tokens at least.
-  pub file_sound : (xs : List Lexeme) → Gives (λ t rest. FileWithin n t xs × (rest ≡ [])) (n ≤ length xs) (file n xs)
+  pub file_sound : (xs : List Lexeme) → Gives (λ all rest. FileWithin n all xs × (rest ≡ [])) (n ≤ length xs) (file n xs)
   unfolding file
   file_sound xs =
       gives_then (classes_from (length xs) [] xs) (λ h. h) (λ all ys w.

@@ -3,7 +3,7 @@ use Rattle.std.specs.Prelude.{◌≡◌, ℕ, ◌≤◌, List, [], length, Ok, E
 use Rattle.java_tokens.specs.declared.token.Token.{Token}
 use Rattle.java_syntax.specs.declared.class.FileTree.{FileTree}
 use Rattle.java_syntax.specs.Lexeme.{Lexeme, numbered}
-use Rattle.java_syntax.specs.Spells.{SpellsWithin, Spells}
+use Rattle.java_syntax.specs.Spells.{places_of, SpellsWithin, Spells}
 use Rattle.java_syntax.specs.Height.{file_height}
 use Rattle.java_reading.specs.Outcome.{no_tree, too_high}
 use Rattle.java_reading.specs.ReadClass.{file}
@@ -12,14 +12,14 @@ use Rattle.java_reading.specs.ReadClass.{file}
 abbrev pub OneFile : Type 0
 OneFile = (s t : FileTree) (tokens : List Token) → Spells s tokens → Spells t tokens → s ≡ t
 
--- A file that spells the tokens and has at most this height is read.
+-- The classes of a file that spells the tokens and has at most this height are read.
 abbrev pub FindsFiles : Type 0
-FindsFiles = (n : ℕ) (t : FileTree) (tokens : List Token) → SpellsWithin n t tokens → file n (numbered 0 tokens) ≡ Ok (t, [])
+FindsFiles = (n : ℕ) (t : FileTree) (tokens : List Token) → SpellsWithin n t tokens → file n (numbered 0 tokens) ≡ Ok (t.classes, [])
 
--- What is read spells the tokens, all of them, and has at most this height.
+-- What is read spells the tokens, all of them, with their places, and has at most this height.
 abbrev pub GivesFiles : Type 0
-GivesFiles = (n : ℕ) (t : FileTree) (tokens : List Token) (rest : List Lexeme) → file n (numbered 0 tokens) ≡ Ok (t, rest)
-    → SpellsWithin n t tokens × (rest ≡ [])
+GivesFiles = (n : ℕ) (t : FileTree) (tokens : List Token) (rest : List Lexeme) → file n (numbered 0 tokens) ≡ Ok (t.classes, rest)
+    → t.places ≡ places_of tokens → SpellsWithin n t tokens × (rest ≡ [])
 
 -- Where no tree is read none spells the tokens, of whatever height.
 abbrev pub RefusesFiles : Type 0

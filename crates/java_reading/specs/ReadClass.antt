@@ -6,7 +6,6 @@ use Rattle.java_tokens.specs.declared.token.Operator.TheVariants as o
 use Rattle.java_tokens.specs.declared.token.TokenKind.{TokenKind}
 use Rattle.java_tokens.specs.declared.token.TokenKind.TheVariants as k
 use Rattle.java_syntax.specs.declared.class.ClassTree.{ClassTree}
-use Rattle.java_syntax.specs.declared.class.FileTree.{FileTree}
 use Rattle.java_syntax.specs.declared.class.FieldTree.{FieldTree}
 use Rattle.java_syntax.specs.declared.class.MakerTree.{MakerTree}
 use Rattle.java_syntax.specs.declared.class.Member.{Member}
@@ -191,14 +190,11 @@ classes n zero found xs = Err no_tree
 classes n (suc fuel) found xs =
     if sees_end xs then Ok (found, next xs) else (class n xs >>= (λ t ys. classes n fuel (found ++ t ∷ []) ys))
 
-abbrev pub file_of : List ClassTree → FileTree
-file_of all = record { classes = all }
-
 -- nothing stands behind the end
-abbrev pub whole : List ClassTree → Parser FileTree
-whole all [] = Ok (file_of all, [])
+abbrev pub whole : List ClassTree → Parser (List ClassTree)
+whole all [] = Ok (all, [])
 whole all (x ∷ xs) = Err no_tree
 
--- a file of at most this height on the whole list
-unfoldable pub file : ℕ → Parser FileTree
+-- the classes of a file of at most this height on the whole list
+unfoldable pub file : ℕ → Parser (List ClassTree)
 file n xs = classes n (length xs) [] xs >>= whole

@@ -1,9 +1,10 @@
 -- Which tokens a file is (JLS 7.3).
-use Rattle.std.specs.Prelude.{ℕ, List, [], ◌∷◌}
+use Rattle.std.specs.Prelude.{◌≡◌, ℕ, List, [], ◌∷◌, map}
 use Rattle.java_tokens.specs.declared.token.Token.{Token}
 use Rattle.java_tokens.specs.declared.token.TokenKind.TheVariants as k
 use Rattle.java_syntax.specs.declared.class.ClassTree.{ClassTree}
 use Rattle.java_syntax.specs.declared.class.FileTree.{FileTree}
+use Rattle.java_syntax.specs.declared.place.TokenPlace.{TokenPlace}
 use Rattle.java_syntax.specs.Lexeme.{Lexeme, numbered, Then}
 use Rattle.java_syntax.specs.Classes.{ClassWithin}
 
@@ -12,14 +13,23 @@ abbrev pub ClassesWithin : ℕ → List ClassTree → List Lexeme → List Lexem
 ClassesWithin n [] xs rest = Then k.End xs rest
 ClassesWithin n (t ∷ more) xs rest = (ys : List Lexeme) × ClassWithin n t xs ys × ClassesWithin n more ys rest
 
--- The file, of at most this height, is written on the whole list.
-abbrev pub FileWithin : ℕ → FileTree → List Lexeme → Type 0
-FileWithin n t xs = ClassesWithin n t.classes xs []
+-- The classes of a file, of at most this height, are written on the whole list.
+abbrev pub FileWithin : ℕ → List ClassTree → List Lexeme → Type 0
+FileWithin n all xs = ClassesWithin n all xs []
 
--- the same, on tokens
+-- where a token begins
+abbrev pub place_of : Token → TokenPlace
+place_of t = record { line = t.line; column = t.column }
+
+-- the same of each token, in order
+abbrev pub places_of : List Token → List TokenPlace
+places_of = map place_of
+
+-- The tree, of at most this height, spells the tokens.
 abbrev pub SpellsWithin : ℕ → FileTree → List Token → Type 0
-SpellsWithin n t tokens = FileWithin n t (numbered 0 tokens)
+SpellsWithin n t tokens = FileWithin n t.classes (numbered 0 tokens) × (t.places ≡ places_of tokens)
 
--- The tree spells the tokens: they are what the grammar writes for it, from the first to the end.
+-- The tree spells the tokens: they are what the grammar writes for its classes, from the first to the end, and they
+-- begin at its places.
 abbrev pub Spells : FileTree → List Token → Type 0
 Spells t tokens = (n : ℕ) × SpellsWithin n t tokens

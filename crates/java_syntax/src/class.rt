@@ -1,5 +1,6 @@
 use crate::expression::Expr;
 use crate::name::{Ident, TypeTree};
+use crate::place::TokenPlace;
 use crate::statement::Stmt;
 use sqlite_items::Items;
 
@@ -7,6 +8,8 @@ use sqlite_items::Items;
 #[derive(Drop)]
 pub struct FileTree {
     pub classes: Items<ClassTree>,
+    /// Where each token begins, in order, that of the end included: token number `at` begins at `places[at]`.
+    pub places: Items<TokenPlace>,
 }
 
 /// A class (JLS 8.1).

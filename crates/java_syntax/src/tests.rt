@@ -2,9 +2,10 @@ ghost use Rattle.std.specs.Prelude.{◌≡◌, ◌+◌, ◌<◌, IfOk};
 ghost use Rattle.java_syntax.specs.Height.{expr_height, stmt_height, member_height, file_height};
 
 use crate::{
-    BaseType, ClassTree, Expr, FileTree, Ident, LocalTree, Member, MethodTree, Mods, Stmt, TypeTree,
+    BaseType, ClassTree, Expr, FileTree, Ident, LocalTree, Member, MethodTree, Mods, Stmt,
+    TokenPlace, TypeTree,
 };
-use java_tokens::Name;
+use java_tokens::{Name, Token, TokenKind};
 use sqlite_items::{Boxed, Items};
 use std::alloc::{AllocError, Global};
 use std::test::Fail;
@@ -72,6 +73,7 @@ fn file(alloc: Global, member: Member) -> Result<FileTree, AllocError>
     };
     Ok(FileTree {
         classes: Items::from_vec(vec![in alloc; class]?),
+        places: Items::new(alloc),
     })
 }
 
@@ -81,6 +83,7 @@ fn heights_of_files(rt: HostRuntime) -> Result<(), Fail> {
     let alloc = rt.alloc();
     let none = FileTree {
         classes: Items::new(alloc),
+        places: Items::new(alloc),
     };
     assert_eq!(rt; none.height(), 0);
     assert_eq!(rt; file(alloc, Member::Empty)?.height(), 2);
@@ -89,5 +92,19 @@ fn heights_of_files(rt: HostRuntime) -> Result<(), Fail> {
         let member = method(alloc, local(alloc, value))?;
         assert_eq!(rt; file(alloc, member)?.height(), height);
     }
+    Ok(())
+}
+
+#[test]
+fn place_of_a_token(rt: HostRuntime) -> Result<(), Fail> {
+    let token = Token {
+        kind: TokenKind::End,
+        start: 30,
+        end: 30,
+        line: 4,
+        column: 9,
+    };
+    let want = TokenPlace { line: 4, column: 9 };
+    assert_eq!(rt; TokenPlace::of(&token), want);
     Ok(())
 }

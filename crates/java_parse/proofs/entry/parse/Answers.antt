@@ -1,15 +1,23 @@
 use Rattle.std.proofs.Common.{arith}
+use Rattle.java_syntax.specs.declared.class.FileTree.{FileTree}
 use Rattle.java_parse.proofs.Top.{spelled, low, only, nothing, high_ones, long_enough}
 use Rattle.java_parse.proofs.entry.parse.Goals as goal
 
-pub returns-in-Ok-clause-spells : goal.returns-in-Ok-clause-spells
-returns-in-Ok-clause-spells c = spelled c.args.tokens.now c.in-Ok.tree c.file.new.tokens (rw c.new-rest.ensures at c.in-Ok.ensures)
+-- the classes that are read, and the places of the tokens
+abbrev tree : goal.In_ok-places-in-Ok → FileTree
+tree c = record { classes = c.in-Ok.classes; places = c.in_ok-places-in-Ok.field-0 }
 
-pub returns-in-Ok-clause-low : goal.returns-in-Ok-clause-low
-returns-in-Ok-clause-low c = low c.args.tokens.now c.in-Ok.tree c.file.new.tokens (rw c.new-rest.ensures at c.in-Ok.ensures)
+pub returns-in_ok-places-in-Ok-clause-spells : goal.returns-in_ok-places-in-Ok-clause-spells
+returns-in_ok-places-in-Ok-clause-spells c =
+    spelled c.args.tokens.now (tree c) c.file.new.tokens (rw c.new-rest.ensures at c.in-Ok.ensures) c.in_ok-places-in-Ok.ensures
 
-pub returns-in-Ok-clause-only : goal.returns-in-Ok-clause-only
-returns-in-Ok-clause-only c = only c.args.tokens.now c.in-Ok.tree c.file.new.tokens (rw c.new-rest.ensures at c.in-Ok.ensures)
+pub returns-in_ok-places-in-Ok-clause-low : goal.returns-in_ok-places-in-Ok-clause-low
+returns-in_ok-places-in-Ok-clause-low c =
+    low c.args.tokens.now (tree c) c.file.new.tokens (rw c.new-rest.ensures at c.in-Ok.ensures) c.in_ok-places-in-Ok.ensures
+
+pub returns-in_ok-places-in-Ok-clause-only : goal.returns-in_ok-places-in-Ok-clause-only
+returns-in_ok-places-in-Ok-clause-only c =
+    only c.args.tokens.now (tree c) c.file.new.tokens (rw c.new-rest.ensures at c.in-Ok.ensures) c.in_ok-places-in-Ok.ensures
 
 pub returns-in-Err-NoTree-clause-cause : goal.returns-in-Err-NoTree-clause-cause
 returns-in-Err-NoTree-clause-cause c =

@@ -1,6 +1,7 @@
 -- Ways in which the machine goes on.
-use Rattle.std.proofs.Common.{◌≡◌, ◌≤◌, ◌+◌, ℕ, Bool, true, false, List, [], ◌∷◌, ◌++◌, length, refl, sym, ap, ◌∙◌, arith}
+use Rattle.std.proofs.Common.{Bor, ◌≡◌, ◌≤◌, ◌+◌, ℕ, Bool, true, false, List, [], ◌∷◌, ◌++◌, length, refl, sym, ap, subst, ◌∙◌, arith}
 use Rattle.relation_bounds.specs.declared.journal.Entry.{Entry}
+use Rattle.core_tree.specs.declared.stmt.Stmt.{Stmt}
 use Rattle.core_tree.specs.declared.program.Program.{Program}
 use Rattle.evaluation.specs.declared.outcome.Outcome.{Outcome}
 use Rattle.evaluation.specs.World.{Answer, Run, gives}
@@ -34,6 +35,18 @@ pushes b node m n x y fresh is same = record {
   marks = rw is refl;
   frames = rw is refl;
   same = λ k f J. rw is (same k f J);
+}
+
+-- two frames are pushed before a statement, the lower one maybe a loop's
+pub pushes_two : (node : Parts → Run) (m n z : Point) (x x' : Frame) (s : Bor Stmt) → Pushes x m n → Pushes x' n z → ((k f : ℕ) (J : List Entry) → node (meaning m.setting.program k) (world m f J) ≡ resumed m.setting.program (meaning m.setting.program k) x (resumed m.setting.program (meaning m.setting.program k) x' (focused m.setting.program (meaning m.setting.program k) (focus.Stmt s) (world m f J)))) → Moves true node m z (focus.Stmt s)
+pushes_two node m n z x x' s first second same = record {
+  pushed = x' ∷ x ∷ [];
+  fresh = tt;
+  setting = rw (second, first) refl;
+  taken = rw (second, first) refl;
+  marks = rw (second, first) refl;
+  frames = rw (second, first) refl;
+  same = λ k f J. rw (second, first) (same k f J);
 }
 
 -- frames of which none is a loop's stay so with one more of them below

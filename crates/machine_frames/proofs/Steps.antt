@@ -178,7 +178,7 @@ ends_answer m n o sink le empty setting marks taken now = record {
   heap = λ R printed J at. ap (λ (a : Answer). a.world.now) (at_budget m o le empty R printed J at) ∙ sym now;
   fuel = λ R printed J at. let e = ap (λ (a : Answer). a.world.fuel) (at_budget m o le empty R printed J at) in omega (arith, e, taken);
   journal = λ R printed J at. ap (λ (a : Answer). a.world.journal) (at_budget m o le empty R printed J at);
-  put = λ R printed J at. ([], (ap (λ (a : Answer). a.out) (at_budget m o le empty R printed J at), (ap (λ (a : Answer). a.out) (at_taken m n o taken empty R printed J at), Puts-nil sink tt)));
+  put = λ R printed J at. ([], ap (λ (a : Answer). a.out) (at_budget m o le empty R printed J at), ap (λ (a : Answer). a.out) (at_taken m n o taken empty R printed J at), Puts-nil sink tt);
 }
 
 -- ---- a run whose steps are spent
@@ -221,7 +221,7 @@ ends_spent m x sink full spent = record {
   journal = λ R printed J at. ap (λ (a : Answer). a.world.journal) (whole R printed J at).1.1.1.1 ∙ (whole R printed J at).1.1.1.0;
   put = λ R printed J at.
       let out = ap (λ (a : Answer). a.out) (whole R printed J at).1.1.1.1 in
-      ([], (out, (ap (λ t. (R t J).out) full ∙ out, Puts-nil sink tt)));
+      ([], out, ap (λ t. (R t J).out) full ∙ out, Puts-nil sink tt);
 }
   where
     whole : (R : Result) (printed : List ℕ) (J : List Entry) → At R m printed x → (v : World) × ((v.now ≡ m.now) × ((v.fuel ≡ 0) × ((v.journal ≡ J) × (R m.setting.budget J ≡ after printed [] (gives Spent v)))))
@@ -289,7 +289,7 @@ drives_end a b c x y first second third o l e = record {
   journal = λ R printed J at. ap (λ (s : Setting). (R s.budget J).world.journal) (sym l.setting) ∙ e.journal R (printed ++ l.more) J (l.on R printed at);
   put = λ R printed J at.
       let p = e.put R (printed ++ l.more) J (l.on R printed at) in
-      (l.more ++ p.0, (ap (λ (s : Setting). (R s.budget J).out) (sym l.setting) ∙ p.1.0 ∙ append_assoc printed l.more p.0, (p.1.1.0 ∙ append_assoc printed l.more p.0, Puts-append first second third l.more p.0 tt (Ok tt) l.put p.1.1.1)));
+      (l.more ++ p.0, ap (λ (s : Setting). (R s.budget J).out) (sym l.setting) ∙ p.1 ∙ append_assoc printed l.more p.0, p.2 ∙ append_assoc printed l.more p.0, Puts-append first second third l.more p.0 tt (Ok tt) l.put p.3);
 }
 
 pub drives_early : (a b c : Point) (x y : Focus) (first second third : SinkState) (end : EarlyEnd) → Leads a x first b y second → Stops b y second c third end → Stops a x first c third end
@@ -297,5 +297,5 @@ drives_early a b c x y first second third end l s = record {
   within = rw (sym l.setting) s.within;
   put = λ R printed J at.
       let p = s.put R (printed ++ l.more) J (l.on R printed at) in
-      (l.more ++ p.0, (p.1.0, (p.1.1.0 ∙ append_assoc printed l.more (p.0 ++ p.1.0) ∙ ap (λ out. printed ++ out) (sym (append_assoc l.more p.0 p.1.0)), Puts-append first second third l.more p.0 tt (sink_answer end) l.put p.1.1.1)));
+      (l.more ++ p.0, (p.1.0, p.1.1 ∙ append_assoc printed l.more (p.0 ++ p.1.0) ∙ ap (λ out. printed ++ out) (sym (append_assoc l.more p.0 p.1.0)), Puts-append first second third l.more p.0 tt (sink_answer end) l.put p.1.2));
 }

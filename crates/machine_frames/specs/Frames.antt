@@ -22,7 +22,7 @@ use Rattle.evaluation.specs.Calls.{Parts, Loop, called, block, arguments, invoke
 use Rattle.evaluation.specs.Evaluate.{choose}
 use Rattle.evaluation.specs.Execute.{printed, prints, print_value, throw, keeping, finally, operand, update_place, after_body, turn, catching, meaning}
 use Rattle.std.specs.Option.{option_map_or}
-use Rattle.machine_frames.specs.declared.makers.Start.{Start}
+use Rattle.machine_frames.specs.declared.start.Start.{Start}
 use Rattle.machine_frames.specs.declared.frame.ValueFrame.{ValueFrame}
 use Rattle.machine_frames.specs.declared.frame.ValueFrame.TheVariants as on
 use Rattle.machine_frames.specs.declared.frame.PlaceUse.{PlaceUse}

@@ -15,12 +15,11 @@ use Rattle.heap_arena.specs.declared.error.MakeError.{MakeError}
 use Rattle.heap_arena.specs.declared.error.MakeError.TheVariants as error
 use Rattle.heap_arena.specs.declared.cell.Cell.TheVariants as value
 use Rattle.heap_arena.specs.Heap.{Heap, cell_count, default_of, most_cells}
-use Rattle.relation_bounds.specs.declared.journal.Entry.{Entry}
 use Rattle.evaluation.specs.declared.outcome.Outcome.{Outcome}
 use Rattle.evaluation.specs.declared.outcome.Outcome.TheVariants as outcome
-use Rattle.evaluation.specs.World.{gives}
+use Rattle.evaluation.specs.World.{World, gives}
 use Rattle.evaluation.specs.Objects.{field_types}
-use Rattle.evaluation.specs.Run.{arguments_heap, ending, ending_of, first_world, has_short_arguments, run, run_main, Ending}
+use Rattle.evaluation.specs.Run.{arguments_heap, ending, ending_of, has_short_arguments, run, run_main, Ending}
 use Rattle.machine_frames.specs.declared.frame.EarlyEnd.{EarlyEnd}
 use Rattle.machine_frames.specs.declared.frame.EarlyEnd.TheVariants as early
 use Rattle.machine_frames.specs.declared.frame.NormalFrame.TheVariants as normal
@@ -56,11 +55,20 @@ abbrev pub refusal : PutError → RunStop
 refusal put.WriteFault = how.WriteFault
 refusal put.OutOfMemory = how.OutOfMemory
 
--- the stop of a run that ended so in this heap; the copy of a message may want memory
-abbrev pub Tells : Heap → Result Outcome EarlyEnd → RunStop → Type 0
-Tells h (Ok o) stop = (stop ≡ how.OutOfMemory) ⊎ (told stop ≡ Some (ending_of h o))
-Tells h (Err early.OutOfMemory) stop = stop ≡ how.OutOfMemory
-Tells h (Err (early.Refused error)) stop = stop ≡ refusal error
+-- how a run ends whose machine stopped early
+abbrev pub stopped : EarlyEnd → RunStop
+stopped early.OutOfMemory = how.OutOfMemory
+stopped (early.Refused error) = refusal error
+
+-- the stop of a run with this ending, or none where it was stuck; the copy of a message may want memory
+abbrev pub TellsEnd : Ending → Option RunStop → Type 0
+TellsEnd end None = end ≡ Ending.Stuck
+TellsEnd end (Some stop) = (stop ≡ how.OutOfMemory) ⊎ (told stop ≡ Some end)
+
+-- the stop of a run that ended so in this heap
+abbrev pub Tells : Heap → Result Outcome EarlyEnd → Option RunStop → Type 0
+Tells h (Ok o) stop = TellsEnd (ending_of h o) stop
+Tells h (Err end) stop = stop ≡ Some (stopped end)
 
 -- how a run ends whose arguments were not made
 abbrev pub unmade : MakeError → RunStop
@@ -85,24 +93,26 @@ pub record IsFirst (main : Method) (beginning : Beginning) : Type 0 where
   pub frames : IsRest main.body beginning.frames
   pub locals : beginning.locals ≡ value.Ref 0 ∷ map default_of main.locals
 
+-- the method that runs
+abbrev pub IsMain : Program → Method → Type 0
+IsMain p main = slice_get p.methods p.main ≡ Some main
+
 -- the arguments are made, and `main` begins
-pub record IsBegun (p : Program) (args : List (List ℕ)) (now : Heap) (beginning : Beginning) : Type 0 where
-  pub main : Method
-  pub main_is : slice_get p.methods p.main ≡ Some main
+pub record IsBegun (main : Method) (args : List (List ℕ)) (now : Heap) (beginning : Beginning) : Type 0 where
   pub first : IsFirst main beginning
   pub now_is : now ≡ arguments_heap args
   pub short : has_short_arguments args ≡ true
   pub fits : nat_le (cell_count (arguments_heap args)) most_cells ≡ true
 
--- memory is wanting, or no run of the program begins with these arguments
-abbrev pub IsRefused : Program → List (List ℕ) → RunStop → Type 0
-IsRefused p args stop =
+-- memory is wanting, or no run begins with these arguments
+abbrev pub IsRefused : List (List ℕ) → RunStop → Type 0
+IsRefused args stop =
     (stop ≡ how.OutOfMemory)
-    ⊎ ((what : What) × (stop ≡ how.Full what) × ((main : Method) (steps : ℕ) (J : List Entry) → run_main p args (first_world main args steps J) ≡ gives (outcome.Full what) (first_world main args steps J)))
+    ⊎ ((what : What) × (stop ≡ how.Full what) × ((p : Program) (w : World) → w.now ≡ arguments_heap args → run_main p args w ≡ gives (outcome.Full what) w))
 
-abbrev pub BeginsAs : Program → List (List ℕ) → Heap → Result Beginning RunStop → Type 0
-BeginsAs p args now (Ok beginning) = IsBegun p args now beginning
-BeginsAs p args now (Err stop) = IsRefused p args stop
+abbrev pub BeginsAs : Method → List (List ℕ) → Heap → Result Beginning RunStop → Type 0
+BeginsAs main args now (Ok beginning) = IsBegun main args now beginning
+BeginsAs main args now (Err stop) = IsRefused args stop
 
 -- ---- runs
 
@@ -118,16 +128,24 @@ abbrev pub EndsBy : Program → List (List ℕ) → ℕ → SinkState → SinkSt
 EndsBy p args budget before now taken (Some end) = EndsWhole p args budget end before now taken
 EndsBy p args budget before now taken None = AppendsPrefix before now (run p args taken []).out
 
--- the same, by the stop
+-- the same, by the stop; with none the run was stuck
 abbrev pub EndsAs : Program → List (List ℕ) → ℕ → SinkState → SinkState → ℕ → RunStop → Type 0
 EndsAs p args budget before now taken stop = EndsBy p args budget before now taken (told stop)
 
+abbrev pub EndsIf : Program → List (List ℕ) → ℕ → SinkState → SinkState → ℕ → Option RunStop → Type 0
+EndsIf p args budget before now taken None = ending (run p args budget []) ≡ Ending.Stuck
+EndsIf p args budget before now taken (Some stop) = EndsAs p args budget before now taken stop
+
+abbrev pub FinishesIf : Option RunStop → Type 0
+FinishesIf None = ⊥
+FinishesIf (Some stop) = Finishes stop
+
 -- a whole run of the machine that left this heap and these marks
-pub record EndsRun (p : Program) (args : List (List ℕ)) (budget : ℕ) (before after : SinkState) (now : Heap) (marks : List Heap) (taken : ℕ) (stop : RunStop) : Type 0 where
-  pub ends : EndsAs p args budget before after taken stop
+pub record EndsRun (p : Program) (args : List (List ℕ)) (budget : ℕ) (before after : SinkState) (now : Heap) (marks : List Heap) (taken : ℕ) (stop : Option RunStop) : Type 0 where
+  pub ends : EndsIf p args budget before after taken stop
   pub within : taken ≤ budget
-  pub heap : Finishes stop → now ≡ (run p args budget []).world.now
-  pub marks_are : Finishes stop → marks ≡ []
+  pub heap : FinishesIf stop → now ≡ (run p args budget []).world.now
+  pub marks_are : FinishesIf stop → marks ≡ []
   pub flushed : NoFewer before.flushed after.flushed
   pub later : before.faults ≤ after.faults
-  pub cause : stop ≡ how.WriteFault → Rose before.faults after.faults
+  pub cause : stop ≡ Some how.WriteFault → Rose before.faults after.faults

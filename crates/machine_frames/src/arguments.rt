@@ -18,24 +18,33 @@ use std::alloc::Global;
 const MOST_UNITS: u32 = 1_048_576;
 
 /// Whether an argument has too many code units.
-pub fn has_long_argument(args: &[String]) -> bool
-    ensures { result ≡ not (has_short_arguments (map text_of args.now)) }
+pub fn has_long_argument(alloc: Global, args: &[String]) -> Result<bool, OutOfMemory>
+    ensures { IfOk result (λ long. long ≡ not (has_short_arguments (map text_of args.now))) }
 {
     for arg in args {
-        if is_long(arg.as_str()) {
-            return true;
+        let characters = characters_of(alloc, arg.as_str())?;
+        if is_long(characters.as_slice()) {
+            return Ok(true);
         }
     }
-    false
+    Ok(false)
+}
+
+// The characters of a text.
+fn characters_of(alloc: Global, text: &str) -> Result<Vec<char>, OutOfMemory>
+    ensures { IfOk result (λ characters. characters.items ≡ chars text.now) }
+{
+    let characters: Vec<char> = text.chars().collect(alloc)?;
+    Ok(characters)
 }
 
 // Whether a text has too many code units.
-fn is_long(text: &str) -> bool
-    ensures { result ≡ not (nat_le (code_units (chars text.now)) most_units) }
+fn is_long(characters: &[char]) -> bool
+    ensures { result ≡ not (nat_le (code_units characters.now) most_units) }
 {
     let mut units = 0;
-    for character in text.chars() {
-        units += units_of(character);
+    for character in characters {
+        units += units_of(*character);
         if units > MOST_UNITS {
             return true;
         }
@@ -78,9 +87,5 @@ fn text(alloc: Global, of: &str) -> Result<Text, OutOfMemory>
     requires { code_units (chars of.now) ≤ most_units }
     ensures { IfOk result (λ text. text ≡ chars of.now) }
 {
-    let mut characters = Vec::new(alloc);
-    for character in of.chars() {
-        characters.push(character)?;
-    }
-    Text::new(alloc, characters)
+    Text::new(alloc, characters_of(alloc, of)?)
 }

@@ -93,8 +93,9 @@ impl<'p, S: Store + Drop> Running<'p, S> {
         ensures light { IfOk result (Leaves S.now S.marks S.field_types (call_weight (length self.old.program.now.classes) (callee.New k o)) self.old self.new) }
         ensures err { OnErr result (FailsIn S.now S.marks S.field_types self.old self.new) }
     {
+        let levels = self.program.classes.len();
         self.push(Frame::Normal(NormalFrame::New(o)))?;
-        Ok(Focus::Construct(k, o, got, self.program.classes.len()))
+        Ok(Focus::Construct(k, o, got, levels))
     }
 
     /// A call of the method that the selector picks in the run-time class of the object (JLS 15.12.4.4).

@@ -4,7 +4,7 @@ ghost use Rattle.std.specs.Prelude.{◌≡◌, IfOk, OnErr};
 ghost use Rattle.std.specs.Option.{option_copied};
 ghost use Rattle.evaluation.specs.World.{gives};
 ghost use Rattle.evaluation.specs.Execute.{catch_object, catching, finally, finally_if, handled, handler, keeping};
-ghost use Rattle.machine_frames.specs.Frames.{point, Goes, Leaves, FailsIn};
+ghost use Rattle.machine_frames.specs.Frames.{point, Weighs, Goes, Leaves, FailsIn};
 
 use crate::frame::{Focus, Frame, PlainFrame};
 use crate::running::Running;
@@ -29,9 +29,42 @@ impl<'p, S: Store + Drop> Running<'p, S> {
         ensures light { IfOk result (Leaves S.now S.marks S.field_types 0 self.old self.new) }
         ensures err { OnErr result (FailsIn S.now S.marks S.field_types self.old self.new) }
     {
-        if let Some(last) = last {
-            self.push(Frame::Plain(PlainFrame::Finally(last)))?;
+        match last {
+            Some(last) => self.enter_finally(body, catches, last),
+            None => self.enter_catches(body, catches),
         }
+    }
+
+    // A block with its `catch` clauses, and a `finally` block.
+    fn enter_finally(
+        &mut self,
+        body: &'p Boxed<Stmt>,
+        catches: &'p Items<Catch>,
+        last: &'p Boxed<Stmt>,
+    ) -> Result<Focus<'p>, OutOfMemory>
+        ensures ok { IfOk result (Goes S.now S.marks S.field_types
+            (λ part w. finally (part.stmt last.entry.now) (catching self.old.program.now part catches.entry.now (part.stmt body.entry.now w)))
+            self.old self.new) }
+        ensures light { IfOk result (Leaves S.now S.marks S.field_types 0 self.old self.new) }
+        ensures err { OnErr result (FailsIn S.now S.marks S.field_types self.old self.new) }
+    {
+        self.push(Frame::Plain(PlainFrame::Finally(last)))?;
+        self.enter_catches(body, catches)
+    }
+
+    // A block with its `catch` clauses.
+    fn enter_catches(
+        &mut self,
+        body: &'p Boxed<Stmt>,
+        catches: &'p Items<Catch>,
+    ) -> Result<Focus<'p>, OutOfMemory>
+        ensures ok { IfOk result (Goes S.now S.marks S.field_types
+            (λ part w. catching self.old.program.now part catches.entry.now (part.stmt body.entry.now w))
+            self.old self.new) }
+        ensures light { IfOk result (λ y. Weighs 2
+            (point S.now S.marks S.field_types self.old) (point S.now S.marks S.field_types self.new) y) }
+        ensures err { OnErr result (FailsIn S.now S.marks S.field_types self.old self.new) }
+    {
         self.push(Frame::Plain(PlainFrame::Catching(catches)))?;
         Ok(Focus::Stmt(body.get()))
     }
@@ -106,11 +139,20 @@ impl<'p, S: Store + Drop> Running<'p, S> {
             | Outcome::Return(_)
             | Outcome::Break
             | Outcome::Continue
-            | Outcome::Throw(_) => {
-                self.push(Frame::Plain(PlainFrame::Finished(o)))?;
-                Ok(Focus::Stmt(last.get()))
-            }
+            | Outcome::Throw(_) => self.finish_after(last, o),
         }
+    }
+
+    // A `finally` block after which this outcome stands, unless the block ends abruptly.
+    fn finish_after(&mut self, last: &'p Boxed<Stmt>, earlier: Outcome) -> Result<Focus<'p>, OutOfMemory>
+        ensures ok { IfOk result (Goes S.now S.marks S.field_types
+            (λ part w. keeping earlier (part.stmt last.entry.now w))
+            self.old self.new) }
+        ensures light { IfOk result (Leaves S.now S.marks S.field_types 0 self.old self.new) }
+        ensures err { OnErr result (FailsIn S.now S.marks S.field_types self.old self.new) }
+    {
+        self.push(Frame::Plain(PlainFrame::Finished(earlier)))?;
+        Ok(Focus::Stmt(last.get()))
     }
 
     /// After the `finally` block the earlier outcome, unless the block ended abruptly.

@@ -29,6 +29,7 @@ mod resume;
 mod run;
 mod running;
 mod stack;
+mod start;
 mod statements;
 mod step;
 mod stop;

@@ -1,12 +1,8 @@
 //! The machine as callers see it.
 
-ghost use Rattle.std.specs.Prelude.{◌≡◌, ◌≤◌, MatchOption, Some, [], map};
+ghost use Rattle.std.specs.Prelude.{◌≡◌, MatchOption, Some, map};
 ghost use Rattle.core_tree.specs.WellTyped.{IsWellTyped};
-ghost use Rattle.pb_io.specs.Faults.{Rose};
-ghost use Rattle.pb_io.specs.Sink.{NoFewer};
-ghost use Rattle.evaluation.specs.Run.{run};
-ghost use Rattle.machine_frames.specs.declared.stop.RunStop.TheVariants as stop;
-ghost use Rattle.machine_frames.specs.Machine.{text_of, EndsAs, Finishes, IsFresh};
+ghost use Rattle.machine_frames.specs.Machine.{text_of, EndsRun, IsFresh};
 
 use crate::run::run_main;
 use crate::stop::RunStop;
@@ -36,12 +32,12 @@ impl<S: Store + Drop> Machine<S> {
         }
     }
 
-    /// Runs the program with these arguments and a budget of steps. What it prints goes into the sink, a put for each print,
-    /// and it asks for no flush. An argument of more than 1,048,576 code units is `Full(Text)` before the first step.
+    /// Runs a well-typed program with these arguments and a budget of steps. What it prints goes into the sink, a put for each
+    /// print, and it asks for no flush. An argument of more than 1,048,576 code units is `Full(Text)` before the first step.
     ///
     /// Every stop but the last two is that of the reference evaluation with this budget, and its output is whole; after
-    /// `Done` and `Uncaught` the store holds the heap that it left. `OutOfMemory`, which may come at any point, and
-    /// `WriteFault` leave a prefix of what a run with the steps taken prints. No mark stands at the end.
+    /// `Done` and `Uncaught` the store holds the heap that it left, and no mark stands. `OutOfMemory`, which may come at any
+    /// point, and `WriteFault` leave a prefix of what a run with the steps taken prints.
     pub fn run<O: Sink>(
         &mut self,
         program: &Program,
@@ -52,19 +48,30 @@ impl<S: Store + Drop> Machine<S> {
         requires well_typed { IsWellTyped program.now }
         requires fresh { MatchOption self.old.store ⊥ (λ store.
             IsFresh program.now (S.now store) (S.marks store) (S.field_types store)) }
-        ensures run { EndsAs program.now (map text_of args.now) steps (O.state sink.old) (O.state sink.new)
-            self.new.steps_taken result }
-        ensures within { self.new.steps_taken ≤ steps }
-        ensures heap { Finishes result → MatchOption self.new.store ⊥ (λ store.
-            S.now store ≡ (run program.now (map text_of args.now) steps []).world.now) }
-        ensures marks { Finishes result → MatchOption self.new.store ⊥ (λ store. S.marks store ≡ []) }
-        ensures flushed { NoFewer (O.state sink.old).flushed (O.state sink.new).flushed }
-        ensures later { (O.state sink.old).faults ≤ (O.state sink.new).faults }
-        ensures cause { result ≡ stop.WriteFault → Rose (O.state sink.old).faults (O.state sink.new).faults }
+        ensures { MatchOption self.new.store ⊥ (λ store. EndsRun program.now (map text_of args.now) steps
+            (O.state sink.old) (O.state sink.new) (S.now store) (S.marks store) self.new.steps_taken (Some result)) }
     {
-        let Some(store) = self.store.take() else {
-            unreachable!()
-        };
+        match self.attempt(program, args, steps, sink) {
+            Some(stop) => stop,
+            None => unreachable!(),
+        }
+    }
+
+    /// The same for a program that may not be well typed: `None` where a part of it was reached that has no meaning, and the
+    /// reference evaluation is stuck with this budget.
+    pub fn attempt<O: Sink>(
+        &mut self,
+        program: &Program,
+        args: &[String],
+        steps: u64,
+        sink: &mut O,
+    ) -> Option<RunStop>
+        requires fresh { MatchOption self.old.store ⊥ (λ store.
+            IsFresh program.now (S.now store) (S.marks store) (S.field_types store)) }
+        ensures { MatchOption self.new.store ⊥ (λ store. EndsRun program.now (map text_of args.now) steps
+            (O.state sink.old) (O.state sink.new) (S.now store) (S.marks store) self.new.steps_taken result) }
+    {
+        let store = self.store.take()?;
         let ended = run_main(self.alloc, program, store, args, steps, sink);
         self.store = Some(ended.store);
         self.steps_taken = ended.taken;

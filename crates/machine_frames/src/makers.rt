@@ -1,6 +1,6 @@
 //! New objects and their constructors (JLS 12.5, 15.9.4).
 
-ghost use Rattle.std.specs.Prelude.{◌≡◌, ◌+◌, ◌*◌, ◌<◌, IfOk, OnErr, drop, length, option_map};
+ghost use Rattle.std.specs.Prelude.{◌≡◌, ◌+◌, ◌*◌, IfOk, OnErr, drop, length, option_map};
 ghost use Rattle.evaluation.specs.Calls.{build, build_parent, construct, initialise};
 ghost use Rattle.evaluation.specs.Evaluate.{new_object, new_built_in};
 ghost use Rattle.machine_frames.specs.Frames.{point, built, entry_weight, messaged, next_start, run_maker, start_of, started, Weighs, Goes, Leaves, FailsIn, HasFields};
@@ -8,17 +8,11 @@ ghost use Rattle.machine_frames.specs.Frames.{point, built, entry_weight, messag
 use crate::calls::{MESSAGE_PLACE, MOST_LIVE};
 use crate::frame::{CallEnd, Callee, Focus, Frame, Made, NormalFrame, ValueFrame};
 use crate::running::Running;
+use crate::start::Start;
 use core_tree::{BuiltIn, Expr, Field, Maker, OutOfMemory, Parent};
 use evaluation::Outcome;
 use heap_arena::{Cell, Store};
 use sqlite_items::{Boxed, Items};
-
-/// A field initialiser, and the place of its field.
-#[derive(Clone, Copy, Drop)]
-struct Start<'p> {
-    at: usize,
-    value: &'p Boxed<Expr>,
-}
 
 impl<'p, S: Store + Drop> Running<'p, S> {
     /// A new object of a class of the file: it is made before its arguments are evaluated.
@@ -217,7 +211,6 @@ impl<'p, S: Store + Drop> Running<'p, S> {
         start: Start<'p>,
         fields: &'p Items<Field>,
     ) -> Result<Focus<'p>, OutOfMemory>
-        requires within { start.at < length fields.now }
         ensures ok { IfOk result (Goes S.now S.marks S.field_types
             (λ part. started self.old.program.now part o class start.entry.at start.entry.value.now fields.entry.now)
             self.old self.new) }
@@ -225,7 +218,7 @@ impl<'p, S: Store + Drop> Running<'p, S> {
             (point S.now S.marks S.field_types self.old) (point S.now S.marks S.field_types self.new) y) }
         ensures err { OnErr result (FailsIn S.now S.marks S.field_types self.old self.new) }
     {
-        self.push(Frame::Normal(NormalFrame::Fields(o, class, start.at + 1, fields)))?;
+        self.push(Frame::Normal(NormalFrame::Fields(o, class, start.next, fields)))?;
         self.value_of(start.value.get(), ValueFrame::WriteCell(o, start.at))
     }
 }
@@ -239,7 +232,11 @@ fn next_start(class: u32, from: usize, fields: &[Field]) -> Option<Start<'_>>
         let field = &fields[at];
         if field.owner == class {
             if let Some(value) = &field.start {
-                return Some(Start { at, value });
+                return Some(Start {
+                    at,
+                    next: at + 1,
+                    value,
+                });
             }
         }
         at += 1;

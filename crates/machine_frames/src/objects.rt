@@ -1,7 +1,7 @@
 //! What is asked of objects.
 
-ghost use Rattle.std.specs.Prelude.{IfOk, OnErr};
-ghost use Rattle.evaluation.specs.Objects.{array_length, cast, is_instance};
+ghost use Rattle.std.specs.Prelude.{◌≡◌, IfOk, OnErr, option_map, pos};
+ghost use Rattle.evaluation.specs.Objects.{array_length, cast, elements_count, is_instance};
 ghost use Rattle.evaluation.specs.Execute.{throw};
 ghost use Rattle.machine_frames.specs.Frames.{point, Goes, Leaves, FailsIn, HasFields};
 
@@ -24,12 +24,19 @@ impl<'p, S: Store + Drop> Running<'p, S> {
     {
         match array {
             Cell::Null => self.trap(BuiltIn::NullPointerException),
-            Cell::Ref(o) => match elements_count(&self.store, o) {
-                Some(count) => self.end(Outcome::Value(Cell::Int(count as i32))),
+            Cell::Ref(o) => match self.count(o) {
+                Some(count) => self.end(Outcome::Value(Cell::Int(count))),
                 None => self.end(Outcome::Stuck),
             },
             Cell::Int(_) | Cell::Bool(_) | Cell::Text(_) => self.end(Outcome::Stuck),
         }
+    }
+
+    // The number of elements of the array at a position.
+    fn count(&self, o: u32) -> Option<i32>
+        ensures { result ≡ option_map pos (elements_count (S.now self.now.store) o) }
+    {
+        Some(elements_count(&self.store, o)? as i32)
     }
 
     /// A cast (JLS 15.16).

@@ -1,12 +1,11 @@
 //! A whole run: its arguments, its first locals, its steps and its ending.
 
-ghost use Rattle.std.specs.Prelude.{◌≡◌, ◌≢◌, ◌⊎◌, ℕ, IfOk, List, Some, [], map};
-ghost use Rattle.core_tree.specs.WellTyped.{IsWellTyped};
+ghost use Rattle.std.specs.Prelude.{◌≡◌, ℕ, IfOk, List, [], map};
+ghost use Rattle.core_tree.specs.declared.program.Method.{Method as MainMethod};
 ghost use Rattle.heap_arena.specs.Heap.{cell_at};
 ghost use Rattle.evaluation.specs.Objects.{field_types, message_place};
-ghost use Rattle.evaluation.specs.Run.{ending_of, message_of, uncaught, Ending};
-ghost use Rattle.machine_frames.specs.declared.stop.RunStop.TheVariants as stop;
-ghost use Rattle.machine_frames.specs.Machine.{text_of, told, BeginsAs, EndsRun, IsBegun, IsFirst, IsFresh, Tells};
+ghost use Rattle.evaluation.specs.Run.{ending_of, message_of, uncaught};
+ghost use Rattle.machine_frames.specs.Machine.{text_of, BeginsAs, EndsRun, IsBegun, IsFirst, IsFresh, IsMain, Tells, TellsEnd};
 
 use crate::arguments::{has_long_argument, put_arguments};
 use crate::calls::{MESSAGE_PLACE, with_defaults};
@@ -22,12 +21,12 @@ use pb_io::Sink;
 use sqlite_items::Items;
 use std::alloc::Global;
 
-/// A run that has ended.
+/// A run that has ended; it has no stop where it was stuck.
 #[derive(Drop)]
 pub struct Ended<S> {
     pub store: S,
     pub taken: u64,
-    pub stop: RunStop,
+    pub stop: Option<RunStop>,
 }
 
 /// The frames and the locals with which the body of `main` begins.
@@ -46,18 +45,24 @@ pub fn run_main<S: Store + Drop, O: Sink>(
     steps: u64,
     sink: &mut O,
 ) -> Ended<S>
-    requires well_typed { IsWellTyped program.now }
     requires fresh { IsFresh program.now (S.now store) (S.marks store) (S.field_types store) }
     ensures { EndsRun program.now (map text_of args.now) steps (O.state sink.old) (O.state sink.new)
         (S.now result.store) (S.marks result.store) result.taken result.stop }
 {
     let mut store = store;
-    match begin(alloc, program, &mut store, args) {
+    let Some(main) = program.methods.get(program.main as usize) else {
+        return Ended {
+            store,
+            taken: 0,
+            stop: None,
+        };
+    };
+    match begin(alloc, main, &mut store, args) {
         Ok(beginning) => run_body(alloc, program, store, beginning, steps, sink),
         Err(stop) => Ended {
             store,
             taken: 0,
-            stop,
+            stop: Some(stop),
         },
     }
 }
@@ -65,22 +70,18 @@ pub fn run_main<S: Store + Drop, O: Sink>(
 // Makes the arguments, and what the body of `main` begins with.
 fn begin<'p, S: Store>(
     alloc: Global,
-    program: &'p Program,
+    main: &'p Method,
     store: &mut S,
     args: &[String],
 ) -> Result<Beginning<'p>, RunStop>
-    requires well_typed { IsWellTyped program.now }
     requires empty { S.now store.old ≡ [] }
-    ensures begun { BeginsAs program.entry.now (map text_of args.now) (S.now store.new) result }
+    ensures begun { BeginsAs main.entry.now (map text_of args.now) (S.now store.new) result }
     ensures marks { S.marks store.new ≡ S.marks store.old }
     ensures field_types { S.field_types store.new ≡ S.field_types store.old }
 {
-    if has_long_argument(args) {
+    if has_long_argument(alloc, args)? {
         return Err(RunStop::Full(What::Text));
     }
-    let Some(main) = program.methods.get(program.main as usize) else {
-        unreachable!()
-    };
     put_arguments(alloc, store, args)?;
     Ok(first_of(alloc, main)?)
 }
@@ -106,10 +107,8 @@ fn run_body<'p, S: Store + Drop, O: Sink>(
     steps: u64,
     sink: &mut O,
 ) -> Ended<S>
-    requires well_typed { IsWellTyped program.now }
     requires fields { S.field_types store ≡ field_types program.now }
-    requires begun { (args : List (List ℕ)) × IsBegun program.now args (S.now store) beginning }
-    ensures { (args : List (List ℕ)) → IsBegun program.entry.now args (S.now store) beginning.entry →
+    ensures { (args : List (List ℕ)) (main : MainMethod) → IsMain program.entry.now main → IsBegun main args (S.now store.entry) beginning.entry → S.marks store.entry ≡ [] →
         EndsRun program.entry.now args steps (O.state sink.old) (O.state sink.new)
             (S.now result.store) (S.marks result.store) result.taken result.stop }
 {
@@ -134,45 +133,37 @@ fn run_body<'p, S: Store + Drop, O: Sink>(
 }
 
 impl<'p, S: Store + Drop> Running<'p, S> {
-    // How the run ended.
-    fn stop(&self, ended: Result<Outcome, EarlyEnd>) -> RunStop
-        requires settled { IfOk ended (λ o. ending_of (S.now self.now.store) o ≢ Ending.Stuck) }
+    // How the run ended, or `None` where it was stuck.
+    fn stop(&self, ended: Result<Outcome, EarlyEnd>) -> Option<RunStop>
         ensures { Tells (S.now self.now.store) ended result }
     {
         match ended {
             Ok(outcome) => self.stop_of(outcome),
-            Err(EarlyEnd::OutOfMemory) => RunStop::OutOfMemory,
-            Err(EarlyEnd::Refused(error)) => RunStop::from(error),
+            Err(end) => Some(RunStop::from(end)),
         }
     }
 
     // How a run ended with this outcome.
-    fn stop_of(&self, o: Outcome) -> RunStop
-        requires settled { ending_of (S.now self.now.store) o ≢ Ending.Stuck }
-        ensures { (result ≡ stop.OutOfMemory) ⊎ (told result ≡ Some (ending_of (S.now self.now.store) o)) }
+    fn stop_of(&self, o: Outcome) -> Option<RunStop>
+        ensures { TellsEnd (ending_of (S.now self.now.store) o) result }
     {
         match o {
-            Outcome::Normal | Outcome::Return(_) => RunStop::Done,
+            Outcome::Normal | Outcome::Return(_) => Some(RunStop::Done),
             Outcome::Throw(thrown) => self.uncaught(thrown),
-            Outcome::Spent => RunStop::StepsSpent,
-            Outcome::Full(what) => RunStop::Full(what),
-            Outcome::Value(_) | Outcome::Break | Outcome::Continue | Outcome::Stuck => {
-                unreachable!()
-            }
+            Outcome::Spent => Some(RunStop::StepsSpent),
+            Outcome::Full(what) => Some(RunStop::Full(what)),
+            Outcome::Value(_) | Outcome::Break | Outcome::Continue | Outcome::Stuck => None,
         }
     }
 
     // The stop of an exception that nothing caught.
-    fn uncaught(&self, o: u32) -> RunStop
-        requires settled { uncaught (S.now self.now.store) o ≢ Ending.Stuck }
-        ensures { (result ≡ stop.OutOfMemory) ⊎ (told result ≡ Some (uncaught (S.now self.now.store) o)) }
+    fn uncaught(&self, o: u32) -> Option<RunStop>
+        ensures { TellsEnd (uncaught (S.now self.now.store) o) result }
     {
-        let Some(class) = class_at(&self.store, o) else {
-            unreachable!()
-        };
+        let class = class_at(&self.store, o)?;
         match self.message(o) {
-            Ok(message) => RunStop::Uncaught { class, message },
-            Err(_) => RunStop::OutOfMemory,
+            Ok(message) => Some(RunStop::Uncaught { class, message }),
+            Err(_) => Some(RunStop::OutOfMemory),
         }
     }
 

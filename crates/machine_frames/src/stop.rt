@@ -1,3 +1,4 @@
+use crate::frame::EarlyEnd;
 use core_tree::{OutOfMemory, Text, What};
 use heap_arena::MakeError;
 use pb_io::PutError;
@@ -29,6 +30,20 @@ impl From<PutError> for RunStop {
         match error {
             PutError::WriteFault => RunStop::WriteFault,
             PutError::OutOfMemory => RunStop::OutOfMemory,
+        }
+    }
+}
+
+impl From<EarlyEnd> for RunStop {
+    ghost use Rattle.std.specs.Prelude.{◌≡◌};
+    ghost use Rattle.machine_frames.specs.Machine.{stopped};
+
+    ghost from_gives = { λ end stop. stop ≡ stopped end };
+
+    fn from(end: EarlyEnd) -> Self {
+        match end {
+            EarlyEnd::OutOfMemory => RunStop::OutOfMemory,
+            EarlyEnd::Refused(error) => RunStop::from(error),
         }
     }
 }

@@ -1,4 +1,5 @@
 use Rattle.evaluation.specs.declared.outcome.Outcome.TheVariants as outcome
+use Rattle.evaluation.specs.World.{gives}
 use Rattle.machine_frames.proofs.Moves.{made_answer, unmade}
 use Rattle.machine_frames.proofs.running.Running.trap.Goals as goal
 
@@ -6,4 +7,4 @@ pub returns-in-Object-clause-ok : goal.returns-in-Object-clause-ok
 returns-in-Object-clause-ok g c = made_answer _ (λ o. outcome.Throw o) _ _ _ (rw (c.in-Object.is, c.number.ensures) at c.in_ok-o.ensures.ok)
 
 pub returns-in-Ended-clause-ok : goal.returns-in-Ended-clause-ok
-returns-in-Ended-clause-ok g c = unmade _ _ _ _ _ (rw (c.in-Ended.is, c.number.ensures) at c.in_ok-o.ensures.ok)
+returns-in-Ended-clause-ok g c = unmade _ (λ part o. gives (outcome.Throw o)) _ _ _ (rw (c.in-Ended.is, c.number.ensures) at c.in_ok-o.ensures.ok)

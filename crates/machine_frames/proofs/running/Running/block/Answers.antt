@@ -1,0 +1,16 @@
+use Rattle.std.proofs.Common.{false, refl, ap}
+use Rattle.evaluation.specs.Calls.{block}
+use Rattle.evaluation.specs.Execute.{meaning}
+use Rattle.machine_frames.specs.declared.frame.NormalFrame.TheVariants as normal
+use Rattle.machine_frames.specs.declared.frame.Frame.TheVariants as frame
+use Rattle.machine_frames.specs.declared.frame.Focus.TheVariants as focus
+use Rattle.machine_frames.specs.Frames.{point, world}
+use Rattle.machine_frames.proofs.Leaves.{first_and_rest}
+use Rattle.machine_frames.proofs.Moves.{pushes}
+use Rattle.machine_frames.proofs.running.Running.block.Goals as goal
+
+pub returns-in_ok-push-in-len1-up-clause-ok : goal.returns-in_ok-push-in-len1-up-clause-ok
+returns-in_ok-push-in-len1-up-clause-ok g c =
+    let p = c.args.self.now.program.now in
+    let e = first_and_rest c.args.statements.now c.first-item.result c.in-len1-up.len_at_least c.first-item.is in
+    pushes false _ _ _ _ _ tt c.in_ok-push-in-len1-up.ensures.ok (λ k f J. ap (λ ss. block p (meaning p k) ss (world (point g.S.Store.now g.S.Store.marks g.S.Store.field_types c.args.self.now) f J)) e)

@@ -1,17 +1,25 @@
 -- Ways in which the machine goes on.
-use Rattle.std.proofs.Common.{Bor, ◌≡◌, ◌≤◌, ◌+◌, ℕ, Bool, true, false, List, [], ◌∷◌, ◌++◌, length, refl, sym, ap, subst, ◌∙◌, arith}
+use Rattle.std.proofs.Common.{Bor, ◌≡◌, ◌≤◌, ◌+◌, ℕ, Bool, true, false, List, [], ◌∷◌, ◌++◌, length, Option, Result, Ok, Err, IfOk, refl, sym, ap, subst, ◌∙◌, arith}
 use Rattle.relation_bounds.specs.declared.journal.Entry.{Entry}
 use Rattle.core_tree.specs.declared.stmt.Stmt.{Stmt}
 use Rattle.core_tree.specs.declared.program.Program.{Program}
 use Rattle.evaluation.specs.declared.outcome.Outcome.{Outcome}
-use Rattle.evaluation.specs.World.{Answer, Run, gives}
-use Rattle.evaluation.specs.Calls.{Parts}
+use Rattle.evaluation.specs.World.{Answer, Run, gives, ◌>>◌}
+use Rattle.heap_arena.specs.Heap.{Value}
+use Rattle.evaluation.specs.Calls.{Parts, block, leave}
 use Rattle.evaluation.specs.Execute.{meaning}
+use Rattle.machine_frames.specs.declared.frame.CallEnd.{CallEnd}
+use Rattle.machine_frames.specs.declared.frame.Callee.TheVariants as callee
+use Rattle.machine_frames.specs.declared.frame.LoopParts.{LoopParts}
+use Rattle.machine_frames.specs.declared.frame.LoopFrame.TheVariants as loop
+use Rattle.machine_frames.specs.declared.frame.NormalFrame.TheVariants as normal
+use Rattle.machine_frames.specs.declared.frame.PlainFrame.TheVariants as plain
 use Rattle.machine_frames.specs.declared.frame.Frame.{Frame}
+use Rattle.machine_frames.specs.declared.frame.Frame.TheVariants as frame
 use Rattle.machine_frames.specs.declared.frame.Made.TheVariants as made
 use Rattle.machine_frames.specs.declared.frame.Focus.{Focus}
 use Rattle.machine_frames.specs.declared.frame.Focus.TheVariants as focus
-use Rattle.machine_frames.specs.Frames.{Setting, Point, world, Makes, resumed, stacked, focused, frame_weight, frames_weight, focus_weight, answer_weight, is_other, AreOther, IsFresh, Pushes, Moves}
+use Rattle.machine_frames.specs.Frames.{Setting, Point, world, called_with, loop_of, next_turn, Begins, ended, Makes, resumed, stacked, focused, frame_weight, frames_weight, focus_weight, answer_weight, is_other, AreOther, IsFresh, Pushes, Moves}
 
 -- nothing is pushed
 pub stays : (b : Bool) (node : Parts → Run) (m n : Point) (y : Focus) → IsFresh b y [] → n.setting ≡ m.setting → n.taken ≡ m.taken → n.marks ≡ m.marks → n.frames ≡ m.frames → ((k f : ℕ) (J : List Entry) → node (meaning m.setting.program k) (world m f J) ≡ focused m.setting.program (meaning m.setting.program k) y (world n f J)) → Moves b node m n y
@@ -123,3 +131,24 @@ unmade way go m n o makes = stays false _ m n (focus.Answer o) tt makes.setting 
 -- an object was made, and it is in the outcome
 pub made_answer : (way : (ℕ → Run) → Run) (out : ℕ → Outcome) (m n : Point) (o : ℕ) → Makes way m n (made.Object o) → Moves false (λ part. way (λ o. gives (out o))) m n (focus.Answer (out o))
 made_answer way out m n o makes = stays false _ m n (focus.Answer (out o)) tt makes.setting makes.taken makes.marks makes.frames (λ k f J. makes.same (λ o. gives (out o)) f J)
+
+-- a body has begun, over the frame that goes back to the caller
+pub begun_then : (node inner : Parts → Run) (m n z : Point) (e : CallEnd) (this : Option ℕ) (locals : List Value) (y : Focus) → Begins e this locals m n → ((k f : ℕ) (J : List Entry) → node (meaning m.setting.program k) (world m f J) ≡ leave (ended e) m.this m.locals (inner (meaning m.setting.program k) (record { this = this; locals = locals; now = m.now; live = m.live + 1; fuel = f; journal = J }))) → Moves false inner n z y → Moves false node m z y
+begun_then node inner m n z e this locals y is same mv =
+    over node inner m n z (frame.Plain (plain.Leave e m.this m.locals)) y refl (rw is refl) (rw is refl) (rw is refl) (rw is refl) (λ k f J. rw is (same k f J)) mv
+
+-- what holds of a value by two clauses
+pub both : {A E : Type 0} (r : Result A E) (P Q R : A → Type 0) → ((x : A) → P x → Q x → R x) → IfOk r P → IfOk r Q → IfOk r R
+both (Ok x) P Q R go p q = go x p q
+both (Err e) P Q R go p q = tt
+
+-- the run of a constructor for a new object
+pub constructs_new : (m n : Point) (k o : ℕ) (got : List Value) (levels : ℕ) → levels ≡ length m.setting.program.classes → Pushes (frame.Normal (normal.New o)) m n → Moves false (λ part. called_with m.setting.program part (callee.New k o) got) m n (focus.Construct k o got levels)
+constructs_new m n k o got levels is pushed = rw is (pushes false _ m n (frame.Normal (normal.New o)) (focus.Construct k o got (length m.setting.program.classes)) (refl, tt) pushed (λ k f J. refl))
+
+-- the updates of a loop and a further turn
+pub turns_next : (m n z : Point) (parts : LoopParts) (first : Bor Stmt) (rest : Bor (List Stmt)) → (loop_of parts).updates ≡ first.now ∷ rest.now → Pushes (frame.Loop (loop.Updates parts)) m n → Pushes (frame.Normal (normal.Rest rest)) n z → Moves true (λ part. next_turn m.setting.program part (loop_of parts)) m z (focus.Stmt first)
+turns_next m n z parts first rest is lower upper =
+    let p = m.setting.program in
+    pushes_two _ m n z (frame.Loop (loop.Updates parts)) (frame.Normal (normal.Rest rest)) first lower upper
+    (λ k f J. ap (λ us. (block p (meaning p k) us >> (meaning p k).loop (loop_of parts)) (world m f J)) is)

@@ -47,9 +47,9 @@ impl<'p, S: Store + Drop> Running<'p, S> {
         ensures err { OnErr result (FailsIn S.now S.marks S.field_types self.old self.new) }
     {
         match condition {
-            Cell::Bool(true) => self.stmt(body.get()),
+            Cell::Bool(true) => self.stmt(body),
             Cell::Bool(false) => match other {
-                Some(other) => self.stmt(other.get()),
+                Some(other) => self.stmt(other),
                 None => self.end(Outcome::Normal),
             },
             Cell::Int(_) | Cell::Null | Cell::Ref(_) | Cell::Text(_) => self.end(Outcome::Stuck),
@@ -65,9 +65,9 @@ impl<'p, S: Store + Drop> Running<'p, S> {
         ensures err { OnErr result (FailsIn S.now S.marks S.field_types self.old self.new) }
     {
         match parts {
-            LoopParts::While(test, _) => self.value_of(test.get(), ValueFrame::LoopTest(parts)),
+            LoopParts::While(test, _) => self.value_of(test, ValueFrame::LoopTest(parts)),
             LoopParts::For(test, _, _) => match test {
-                Some(test) => self.value_of(test.get(), ValueFrame::LoopTest(parts)),
+                Some(test) => self.value_of(test, ValueFrame::LoopTest(parts)),
                 None => self.body(parts),
             },
         }

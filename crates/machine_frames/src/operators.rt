@@ -24,7 +24,7 @@ impl<'p, S: Store + Drop> Running<'p, S> {
         ensures err { OnErr result (FailsIn S.now S.marks S.field_types self.old self.new) }
     {
         match left {
-            Cell::Bool(true) => self.expr(right.get()),
+            Cell::Bool(true) => self.expr(right),
             Cell::Bool(false) => self.end(Outcome::Value(Cell::Bool(false))),
             Cell::Int(_) | Cell::Null | Cell::Ref(_) | Cell::Text(_) => self.end(Outcome::Stuck),
         }
@@ -40,7 +40,7 @@ impl<'p, S: Store + Drop> Running<'p, S> {
     {
         match left {
             Cell::Bool(true) => self.end(Outcome::Value(Cell::Bool(true))),
-            Cell::Bool(false) => self.expr(right.get()),
+            Cell::Bool(false) => self.expr(right),
             Cell::Int(_) | Cell::Null | Cell::Ref(_) | Cell::Text(_) => self.end(Outcome::Stuck),
         }
     }
@@ -59,8 +59,8 @@ impl<'p, S: Store + Drop> Running<'p, S> {
         ensures err { OnErr result (FailsIn S.now S.marks S.field_types self.old self.new) }
     {
         match condition {
-            Cell::Bool(true) => self.expr(where_true.get()),
-            Cell::Bool(false) => self.expr(where_false.get()),
+            Cell::Bool(true) => self.expr(where_true),
+            Cell::Bool(false) => self.expr(where_false),
             Cell::Int(_) | Cell::Null | Cell::Ref(_) | Cell::Text(_) => self.end(Outcome::Stuck),
         }
     }

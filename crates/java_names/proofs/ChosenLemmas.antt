@@ -1,8 +1,8 @@
 -- What selectors pick, completed by more.
-use Rattle.std.proofs.Common.{◌≡◌, ◌<◌, ◌≤◌, ◌==◌, ℕ, ◌+◌, zero, suc, Bool, true, false, true≢false, is_some, is_none, nat_eq, List, [], ◌∷◌, map, replicate, length, slice_get, slice_set, get_or, Option, None, Some, refl, sym, ap, subst, ◌∙◌, if◌then◌else◌, option_and_then, arith}
+use Rattle.std.proofs.Common.{◌≡◌, ◌<◌, ◌≤◌, ◌==◌, ℕ, ◌+◌, zero, suc, Bool, true, false, true≢false, drop, drop-cons, add-one, is_some, nat_eq, List, [], ◌∷◌, map, replicate, length, slice_set, get_or, Option, None, Some, refl, sym, ap, subst, ◌∙◌, if◌then◌else◌, option_and_then, arith}
 use Rattle.std.specs.List.{range_with_len}
 use Rattle.std.specs.Option.{option_or}
-use Rattle.std.proofs.lemmas.List.{ext_get_or, get_or-set_other, length-set}
+use Rattle.std.proofs.lemmas.List.{drop_all, ext_get_or, get_or-set_other, length-set}
 use Rattle.std.proofs.lemmas.Grind.{get_or-set_at}
 use Rattle.java_names.specs.Chosen.{completed, is_free, only, picked, first_picked, methods_at, chosen_method, chosen_of}
 use Rattle.java_names.specs.Lookups.{nearest, line_of}
@@ -74,6 +74,7 @@ kept_taken xs s m taken =
     kept : (o : Option ℕ) (more : Option ℕ) → is_some o ≡ true → option_or o more ≡ o
     kept None more h = absurd (true≢false (sym h))
     kept (Some x) more h = refl
+
     by : (i : ℕ) → i < length xs → get_or (completed 0 xs (only s m)) i None ≡ get_or xs i None
     by i within = get_or-completed 0 xs (only s m) i within ∙ ap (λ k. option_or (get_or xs i None) (only s m k)) (omega arith) ∙ choose (nat_eq s i) refl
       where
@@ -90,9 +91,11 @@ picked_without_number m k none = ap (λ number. option_and_then (λ s. if s == k
   where
     nothing : Option ℕ
     nothing = None
+
     neither : (b : Bool) → (if b then nothing else None) ≡ None
     neither true = refl
     neither false = refl
+
     both : (o : Option ℕ) → option_and_then (λ s. if s == k then nothing else None) o ≡ None
     both None = refl
     both (Some s) = neither (s == k)
@@ -107,29 +110,39 @@ none_without_selector m xs none =
 pub only_selected : (m : MethodSymbol) (xs : List (Option ℕ)) (s n : ℕ) → m.selector ≡ Some s → m.number ≡ Some n → completed 0 xs (only s n) ≡ completed 0 xs (λ k. picked k m)
 only_selected m xs s n selector number = λ j. completed 0 xs (λ k. option_and_then (λ t. if t == k then sym number j else None) (sym selector j))
 
--- one method more
-pub first_more : (m : MethodSymbol) (ms : List MethodSymbol) (xs : List (Option ℕ)) → completed 0 (completed 0 xs (λ k. picked k m)) (λ k. first_picked k ms) ≡ completed 0 xs (λ k. first_picked k (m ∷ ms))
-first_more m ms xs = completed-completed 0 xs (λ k. picked k m) (λ k. first_picked k ms)
-
--- no method more
-pub first_none : (xs : List (Option ℕ)) → completed 0 xs (λ k. first_picked k []) ≡ xs
-first_none xs = completed-nothing 0 xs (λ k. None) (λ k. refl)
-
-pub ruleset more_picked = (first_more, first_none)
-
 pub ruleset nothing_picked = (none_without_number, none_without_selector, only_selected)
 
--- one class more
-pub nearest_more : (s : Symbols) (d : ℕ) (line : List ℕ) (xs : List (Option ℕ))
-    → completed 0 (completed 0 xs (λ k. first_picked k (methods_at s d))) (λ k. nearest (λ c. first_picked k (methods_at s c)) line)
-        ≡ completed 0 xs (λ k. nearest (λ c. first_picked k (methods_at s c)) (d ∷ line))
-nearest_more s d line xs = completed-completed 0 xs (λ k. first_picked k (methods_at s d)) (λ k. nearest (λ c. first_picked k (methods_at s c)) line)
+drop_item : {X : Type 0} (xs : List X) (i : ℕ) (x : X) → i < length xs → x ≡ get_or xs i x → drop i xs ≡ x ∷ drop (i + 1) xs
+drop_item xs i x within is = drop-cons xs i x within ∙ ap (λ y. y ∷ drop (suc i) xs) (sym is) ∙ ap (λ n. x ∷ drop n xs) (sym (add-one i))
 
-pub nearest_none : (s : Symbols) (xs : List (Option ℕ)) → completed 0 xs (λ k. nearest (λ c. first_picked k (methods_at s c)) []) ≡ xs
-nearest_none s xs = completed-nothing 0 xs (λ k. None) (λ k. refl)
+-- methods, one after another
+pub method_more : (ms : List MethodSymbol) (i : ℕ) (m : MethodSymbol) (xs all : List (Option ℕ)) → i < length ms → m ≡ get_or ms i m
+    → completed 0 xs (λ k. first_picked k (drop i ms)) ≡ all → completed 0 (completed 0 xs (λ k. picked k m)) (λ k. first_picked k (drop (i + 1) ms)) ≡ all
+method_more ms i m xs all within is so_far =
+    completed-completed 0 xs (λ k. picked k m) (λ k. first_picked k (drop (i + 1) ms))
+    ∙ sym (ap (λ rest. completed 0 xs (λ k. first_picked k rest)) (drop_item ms i m within is)) ∙ so_far
+
+pub methods_done : (ms : List MethodSymbol) (i : ℕ) (xs all : List (Option ℕ)) → length ms ≤ i
+    → completed 0 xs (λ k. first_picked k (drop i ms)) ≡ all → xs ≡ all
+methods_done ms i xs all end so_far =
+    sym (completed-nothing 0 xs (λ k. first_picked k (drop i ms)) (λ k. ap (first_picked k) (drop_all i ms end))) ∙ so_far
+
+-- classes, one after another
+pub class_more : (s : Symbols) (line : List ℕ) (i : ℕ) (xs all : List (Option ℕ)) → i < length line
+    → completed 0 xs (λ k. nearest (λ c. first_picked k (methods_at s c)) (drop i line)) ≡ all
+    → completed 0 (completed 0 xs (λ k. first_picked k (methods_at s (get_or line i 0)))) (λ k. nearest (λ c. first_picked k (methods_at s c)) (drop (i + 1) line)) ≡ all
+class_more s line i xs all within so_far =
+    completed-completed 0 xs (λ k. first_picked k (methods_at s (get_or line i 0))) (λ k. nearest (λ c. first_picked k (methods_at s c)) (drop (i + 1) line))
+    ∙ sym (ap (λ rest. completed 0 xs (λ k. nearest (λ c. first_picked k (methods_at s c)) rest)) dropped) ∙ so_far
+  where
+    dropped : drop i line ≡ get_or line i 0 ∷ drop (i + 1) line
+    dropped = drop-cons line i 0 within ∙ ap (λ n. get_or line i 0 ∷ drop n line) (sym (add-one i))
+
+pub classes_done : (s : Symbols) (line : List ℕ) (i : ℕ) (xs all : List (Option ℕ)) → length line ≤ i
+    → completed 0 xs (λ k. nearest (λ c. first_picked k (methods_at s c)) (drop i line)) ≡ all → xs ≡ all
+classes_done s line i xs all end so_far =
+    sym (completed-nothing 0 xs (λ k. nearest (λ c. first_picked k (methods_at s c)) (drop i line)) (λ k. ap (nearest (λ c. first_picked k (methods_at s c))) (drop_all i line end))) ∙ so_far
 
 -- where nothing is picked yet
 pub chosen_at_first : (s : Symbols) (c : ℕ) → completed 0 (replicate (length s.selectors) None) (λ k. nearest (λ d. first_picked k (methods_at s d)) (line_of s c)) ≡ chosen_of s c
 chosen_at_first s c = completed-replicate 0 (length s.selectors) (chosen_method s c)
-
-pub ruleset along_line = (nearest_more, nearest_none, chosen_at_first)

@@ -48,7 +48,6 @@ fn pick_method(picks: &mut Items<Option<u32>>, method: &MethodSymbol)
 }
 
 /// Lets the selectors of some methods pick the first of them, unless they pick others already.
-#[tactic(auto, using(crate::proofs::ChosenLemmas::more_picked))]
 fn pick_all(picks: &mut Items<Option<u32>>, methods: &[MethodSymbol])
     ensures { picks.new ≡ spec.completed 0 picks.old (λ selector. spec.first_picked selector methods.now) }
 {
@@ -71,7 +70,6 @@ impl Symbols {
     /// The numbers of the methods that the selectors pick in class number `class`, by the numbers of the selectors: at each
     /// the nearest instance method of the file that the class declares or inherits; `None` where there is none, as for
     /// `getMessage` where no class of the file declares it (JLS 15.12.4.4). `AllocError` where there is no memory left.
-    #[tactic(auto, using(crate::proofs::ChosenLemmas::along_line))]
     pub fn chosen(&self, alloc: Global, class: u32) -> Result<Items<Option<u32>>, AllocError>
         ensures { IfOk result (λ picks. picks ≡ spec.chosen_of self.now class) }
     {

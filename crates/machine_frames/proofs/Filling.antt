@@ -1,9 +1,9 @@
 -- The array of the arguments while they are put into it.
 use Rattle.std.proofs.Common.{◌≡◌, ◌<◌, ◌≤◌, nat_le, IsTrue, subst, ℕ, zero, suc, true, List, [], ◌∷◌, length, map, replicate, Option, Some, None, refl, sym, ap, ◌∙◌, arith, slice_get, slice_set}
 use Rattle.std.proofs.lemmas.Bool.{leb-true}
-use Rattle.type_safety.proofs.Lists.{and_l, and_r}
 use Rattle.core_tree.specs.Text.{code_units}
 use Rattle.core_tree.specs.declared.ty.Ty.{Ty}
+use Rattle.core_tree.specs.declared.ty.Ty as shape
 use Rattle.core_tree.specs.declared.ty.Ty.TheVariants as ty
 use Rattle.heap_arena.specs.declared.cell.Cell.TheVariants as value
 use Rattle.heap_arena.specs.declared.kind.Kind.TheVariants as kind
@@ -11,7 +11,7 @@ use Rattle.heap_arena.specs.Heap.{Heap, Value, default_of, made, written}
 use Rattle.evaluation.specs.Values.{most_units}
 use Rattle.evaluation.specs.Objects.{has_cell}
 use Rattle.evaluation.specs.Run.{arguments_heap, has_short_arguments}
-use Rattle.machine_frames.proofs.Leaves.{inj}
+use Rattle.machine_frames.proofs.Leaves.{inj, and_l, and_r}
 
 -- the first k cells have their texts, and the others have null
 pub cells : List (List ℕ) → ℕ → List Value
@@ -28,7 +28,7 @@ none_yet [] = refl
 none_yet (t ∷ ts) = ap (λ vs. value.Null ∷ vs) (none_yet ts)
 
 text_null : default_of ty.Text ≡ value.Null
-unfolding Rattle.core_tree.specs.declared.ty.Ty.{out-Ty}
+unfolding shape.out-Ty denote.Hole.Carrier.out
 text_null = refl
 
 pub begins : (fields : List (List Ty)) (texts : List (List ℕ)) → made fields [] (kind.Array ty.Text) (length texts) ≡ filled texts 0

@@ -2,6 +2,7 @@
 use Rattle.std.proofs.Common.{◌≡◌, ◌+◌, ℕ, zero, suc, Bool, true, false, nat_le, List, [], ◌∷◌, drop, length, Option, Some, None, option_map, refl, sym, ap, ◌∙◌, slice_get}
 use Rattle.std.specs.Option.{option_map_or}
 use Rattle.core_tree.specs.declared.built_in.BuiltIn.{BuiltIn}
+use Rattle.core_tree.specs.declared.operator.UpOp.{UpOp}
 use Rattle.core_tree.specs.declared.expr.Expr.{Expr}
 use Rattle.core_tree.specs.declared.stmt.Stmt.{Stmt}
 use Rattle.core_tree.specs.declared.program.Class.{Class}
@@ -12,10 +13,14 @@ use Rattle.heap_arena.specs.declared.kind.Kind.TheVariants as kind
 use Rattle.heap_arena.specs.Heap.{Value, cell_count, most_cells}
 use Rattle.evaluation.specs.declared.outcome.Outcome.TheVariants as outcome
 use Rattle.evaluation.specs.World.{World, Run, gives, value_then, normal_then, ◌>>=◌, ◌>>◌}
-use Rattle.evaluation.specs.Objects.{make, trap, write_cell}
+use Rattle.evaluation.specs.declared.computed.Computed.{Computed}
+use Rattle.evaluation.specs.declared.computed.Computed.TheVariants as result
+use Rattle.evaluation.specs.declared.place.Place.{Place}
+use Rattle.evaluation.specs.Values.{update_value}
+use Rattle.evaluation.specs.Objects.{computed, make, trap, write_cell, write_place}
 use Rattle.evaluation.specs.Calls.{Parts, block, construct, initialise}
 use Rattle.machine_frames.specs.declared.start.Start.{Start}
-use Rattle.machine_frames.specs.Frames.{FieldStart, initialised_then, initialiser_in, next_start, run_maker, start_of, started}
+use Rattle.machine_frames.specs.Frames.{FieldStart, initialised_then, initialiser_in, next_start, run_maker, start_of, started, updated}
 
 pub construct_step : (p : Program) (part : Parts) (levels rest k o : ℕ) (args : List Value) (w : World) → levels ≡ suc rest → construct p part levels k o args w ≡ option_map_or (λ maker. run_maker p part rest maker o args) (slice_get p.makers k) (gives outcome.Stuck) w
 construct_step p part levels rest k o args w is = rw is refl
@@ -35,7 +40,7 @@ tail_drop (y ∷ ys) (suc at) x xs e = tail_drop ys at x xs e
 one_start : (p : Program) (part : Parts) (o c at : ℕ) (all fields : List Field) (w : World) (e : Option Expr) → fields ≡ drop (suc at) all
     → initialise p part o c (suc at) fields w ≡ option_map_or (λ (s : FieldStart). started p part o c s.at s.value all) (next_start c (suc at) fields) (gives outcome.Normal) w
     → (option_map_or (λ e. part.expr e >>= (λ v. write_cell o at v)) e (gives outcome.Normal) >> initialise p part o c (suc at) fields) w
-      ≡ option_map_or (λ (s : FieldStart). started p part o c s.at s.value all) (option_map_or (λ e. Some (record { at = at; value = e })) e (next_start c (suc at) fields)) (gives outcome.Normal) w
+    ≡ option_map_or (λ (s : FieldStart). started p part o c s.at s.value all) (option_map_or (λ e. Some (record { at = at; value = e })) e (next_start c (suc at) fields)) (gives outcome.Normal) w
 one_start p part o c at all fields w None rest behind = behind
 one_start p part o c at all fields w (Some e) rest behind = ap (λ fs. ((part.expr e >>= (λ v. write_cell o at v)) >> initialise p part o c (suc at) fs) w) rest
 
@@ -73,6 +78,11 @@ trapped p c go w = cases (slice_get p.classes (number_of c))
     made : (n : ℕ) (b : Bool) → nat_le (cell_count w.now + (1 + n)) most_cells ≡ b → value_then go (make p (kind.Instance (number_of c)) n (λ o. gives (outcome.Throw o)) w) ≡ make p (kind.Instance (number_of c)) n (λ o. gives (outcome.Throw o)) w
     made n true is = rw is refl
     made n false is = rw is refl
+
     cases : (class : Option Class) → value_then go (option_map_or (λ class. make p (kind.Instance (number_of c)) (length class.fields) (λ o. gives (outcome.Throw o))) class (gives outcome.Stuck) w) ≡ option_map_or (λ class. make p (kind.Instance (number_of c)) (length class.fields) (λ o. gives (outcome.Throw o))) class (gives outcome.Stuck) w
     cases None = refl
     cases (Some class) = made (length class.fields) _ refl
+
+-- an operator that throws
+pub trap_updates : (p : Program) (op : UpOp) (old : Value) (place : Place) (v : Value) (came : Computed) (c : BuiltIn) (w : World) → came ≡ update_value op old v → came ≡ result.Traps c → updated p op old place v w ≡ trap p c w
+trap_updates p op old place v came c w is traps = ap (λ x. value_then (λ new. write_place p place new) (computed p x w)) (sym is ∙ traps) ∙ trapped p c (λ new. write_place p place new) w

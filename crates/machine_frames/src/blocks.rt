@@ -89,7 +89,11 @@ impl<'p, S: Store + Drop> Running<'p, S> {
     }
 
     /// Goes on with the value of a loop's condition.
-    pub fn tested(&mut self, parts: LoopParts<'p>, condition: Cell<u32>) -> Result<Focus<'p>, OutOfMemory>
+    pub fn tested(
+        &mut self,
+        parts: LoopParts<'p>,
+        condition: Cell<u32>,
+    ) -> Result<Focus<'p>, OutOfMemory>
         ensures ok { IfOk result (Goes S.now S.marks S.field_types
             (λ part. choose condition (λ w. body_of self.old.program.now part (loop_of parts.entry) w) (gives outcome.Normal))
             self.old self.new) }
@@ -165,7 +169,11 @@ impl<'p, S: Store + Drop> Running<'p, S> {
     }
 
     /// Goes on with the outcome of a part of a loop.
-    pub fn resume_loop(&mut self, frame: LoopFrame<'p>, o: Outcome) -> Result<Focus<'p>, OutOfMemory>
+    pub fn resume_loop(
+        &mut self,
+        frame: LoopFrame<'p>,
+        o: Outcome,
+    ) -> Result<Focus<'p>, OutOfMemory>
         ensures ok { IfOk result (Turns S.now S.marks S.field_types
             (λ part w. repeated self.old.program.now part frame.entry (gives o w))
             self.old self.new) }

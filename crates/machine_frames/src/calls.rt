@@ -52,11 +52,7 @@ impl<'p, S: Store + Drop> Running<'p, S> {
         ensures light { IfOk result (Leaves S.now S.marks S.field_types 2 self.old self.new) }
         ensures err { OnErr result (FailsIn S.now S.marks S.field_types self.old self.new) }
     {
-        self.arguments(
-            Callee::Static(m),
-            given.as_slice(),
-            Items::new(self.alloc),
-        )
+        self.arguments(Callee::Static(m), given.as_slice(), Items::new(self.alloc))
     }
 
     /// A call of a method on `this`, whatever the run-time class of `this` is (JLS 15.12.4.4).
@@ -156,7 +152,12 @@ impl<'p, S: Store + Drop> Running<'p, S> {
     }
 
     // The run of the constructor for a new object, which is then the value.
-    fn construct_new(&mut self, k: u32, o: u32, got: Items<Cell<u32>>) -> Result<Focus<'p>, OutOfMemory>
+    fn construct_new(
+        &mut self,
+        k: u32,
+        o: u32,
+        got: Items<Cell<u32>>,
+    ) -> Result<Focus<'p>, OutOfMemory>
         ensures ok { IfOk result (Goes S.now S.marks S.field_types
             (λ part. called_with self.old.program.now part (callee.New k o) got)
             self.old self.new) }
@@ -216,7 +217,12 @@ impl<'p, S: Store + Drop> Running<'p, S> {
     fn chosen(&self, class: u32, selector: u32) -> Option<u32>
         ensures { result ≡ chosen_number self.now.program.now class selector }
     {
-        *self.program.classes.get(class as usize)?.chosen.get(selector as usize)?
+        *self
+            .program
+            .classes
+            .get(class as usize)?
+            .chosen
+            .get(selector as usize)?
     }
 
     // A selector that picks no method: `getMessage` reads the message.

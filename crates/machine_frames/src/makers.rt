@@ -180,9 +180,7 @@ impl<'p, S: Store + Drop> Running<'p, S> {
         match parent {
             Parent::Plain => self.end(Outcome::Normal),
             Parent::Message(message) => match message {
-                Some(e) => {
-                    self.value_of(e, ValueFrame::WriteCell(o, MESSAGE_PLACE as usize))
-                }
+                Some(e) => { self.value_of(e, ValueFrame::WriteCell(o, MESSAGE_PLACE as usize)) }
                 None => self.end(Outcome::Normal),
             },
             Parent::Maker(k, given) => self.parent_call(*k, o, given, levels),

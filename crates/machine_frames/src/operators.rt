@@ -16,7 +16,11 @@ use sqlite_items::Boxed;
 
 impl<'p, S: Store + Drop> Running<'p, S> {
     /// `&&` behind its left operand.
-    pub fn and_then(&mut self, left: Cell<u32>, right: &'p Boxed<Expr>) -> Result<Focus<'p>, OutOfMemory>
+    pub fn and_then(
+        &mut self,
+        left: Cell<u32>,
+        right: &'p Boxed<Expr>,
+    ) -> Result<Focus<'p>, OutOfMemory>
         ensures ok { IfOk result (Goes S.now S.marks S.field_types
             (λ part. choose left (part.expr right.entry.now) (gives (outcome.Value (value.Bool false))))
             self.old self.new) }
@@ -31,7 +35,11 @@ impl<'p, S: Store + Drop> Running<'p, S> {
     }
 
     /// `||` behind its left operand.
-    pub fn or_else(&mut self, left: Cell<u32>, right: &'p Boxed<Expr>) -> Result<Focus<'p>, OutOfMemory>
+    pub fn or_else(
+        &mut self,
+        left: Cell<u32>,
+        right: &'p Boxed<Expr>,
+    ) -> Result<Focus<'p>, OutOfMemory>
         ensures ok { IfOk result (Goes S.now S.marks S.field_types
             (λ part. choose left (gives (outcome.Value (value.Bool true))) (part.expr right.entry.now))
             self.old self.new) }

@@ -41,7 +41,11 @@ impl<'p, S: Store + Drop> Running<'p, S> {
     }
 
     /// Goes on with the value of an expression.
-    pub fn value_of(&mut self, e: &'p Boxed<Expr>, frame: ValueFrame<'p>) -> Result<Focus<'p>, OutOfMemory>
+    pub fn value_of(
+        &mut self,
+        e: &'p Boxed<Expr>,
+        frame: ValueFrame<'p>,
+    ) -> Result<Focus<'p>, OutOfMemory>
         ensures ok { IfOk result (λ y. Moves false
             (λ part w. value_then (used self.old.program.now part frame.entry) (part.expr e.entry.now w))
             (point S.now S.marks S.field_types self.old) (point S.now S.marks S.field_types self.new) y) }

@@ -134,7 +134,11 @@ impl<'p, S: Store + Drop> Running<'p, S> {
     }
 
     // A print of a value, or of a line feed alone.
-    fn enter_print(&mut self, line: bool, e: &'p Option<Boxed<Expr>>) -> Result<Focus<'p>, OutOfMemory>
+    fn enter_print(
+        &mut self,
+        line: bool,
+        e: &'p Option<Boxed<Expr>>,
+    ) -> Result<Focus<'p>, OutOfMemory>
         ensures ok { IfOk result (Goes S.now S.marks S.field_types
             (λ part. print_of part line e.entry.now)
             self.old self.new) }
@@ -162,7 +166,11 @@ impl<'p, S: Store + Drop> Running<'p, S> {
     }
 
     // The statements before the first turn of a loop, and then the loop.
-    fn first_then(&mut self, first: &'p Items<Stmt>, parts: LoopParts<'p>) -> Result<Focus<'p>, OutOfMemory>
+    fn first_then(
+        &mut self,
+        first: &'p Items<Stmt>,
+        parts: LoopParts<'p>,
+    ) -> Result<Focus<'p>, OutOfMemory>
         ensures ok { IfOk result (Goes S.now S.marks S.field_types
             (λ part. first_then self.old.program.now part first.entry.now parts.entry)
             self.old self.new) }

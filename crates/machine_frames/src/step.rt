@@ -79,7 +79,7 @@ impl<'p, S: Store + Drop> Running<'p, S> {
         ensures { Steps (point S.now S.marks S.field_types self.old) (focus.Print bytes) (O.state sink.old)
             (point S.now S.marks S.field_types self.new) (O.state sink.new) result }
     {
-        put_all(sink, &bytes)?;
+        put_all(sink, bytes.as_slice())?;
         Ok(Next::On(Focus::Answer(Outcome::Normal)))
     }
 

@@ -14,11 +14,14 @@ pub loop-arg-init : goal.loop-arg-init
 loop-arg-init g c =
     let texts = map text_of c.args.args.now in
     let fields = g.S.Store.field_types c.args.store.now in
-    let count : c.in-Ok.count ≡ length c.args.args.now = search rules in
-    (refl, count,
+    let count : c.in-Ok.count ≡ length c.args.args.now = search rules in (
+      refl,
+      count,
       c.in_ok-make.ensures.made ∙ ap (λ h. made fields h (kind.Array ty.Text) c.in-Ok.count) c.requires.empty
-      ∙ ap (made fields [] (kind.Array ty.Text)) (count ∙ sym (length-map c.args.args.now text_of)) ∙ begins fields texts,
-      c.in_ok-make.ensures.marks, c.in_ok-make.ensures.field_types)
+          ∙ ap (made fields [] (kind.Array ty.Text)) (count ∙ sym (length-map c.args.args.now text_of)) ∙ begins fields texts,
+      c.in_ok-make.ensures.marks,
+      c.in_ok-make.ensures.field_types,
+    )
 
 pub text-requires : goal.text-requires
 text-requires g c =
@@ -38,9 +41,14 @@ loop-arg-preserved g c =
     let text = rw c.as_str.ensures.value at c.in_ok-text.ensures in
     let there = has_next texts k (omega (arith, lt, length-map c.args.args.now text_of)) in
     let done : c.in_ok-write.field-0 ≡ true = rw (w.done, inv.2, inv.0, there) refl in
-    (omega (arith, inv.0), inv.1,
-      w.written done ∙ rw (inv.2, inv.0, text) (further texts k (text_of c.arg-item.result) is) ∙ ap (filled texts) (omega arith),
-      w.marks ∙ inv.3, w.field_types ∙ inv.4)
+    let put : written (g.S.Store.now c.loop-arg.store) 0 c.loop-arg.at (value.Text c.in_ok-text.text) ≡ filled texts (suc k) = rw (inv.2, inv.0, text) (further texts k (text_of c.arg-item.result) is) in
+    let next : suc k ≡ k + 1 = omega arith in (
+      omega (arith, inv.0),
+      inv.1,
+      w.written done ∙ put ∙ ap (filled texts) next,
+      w.marks ∙ inv.3,
+      w.field_types ∙ inv.4,
+    )
 
 pub returns-clause-made : goal.returns-clause-made
 returns-clause-made g c =
@@ -48,4 +56,5 @@ returns-clause-made g c =
     let inv = c.loop-arg.invariant in
     let last = c.loop-arg.auto.arg-index-end in
     let all = c.loop-arg-test.false in
-    inv.2 ∙ ap (filled texts) (omega (arith, last, all, length-map c.args.args.now text_of)) ∙ ends texts
+    let end : c.loop-arg.arg-index ≡ length texts = omega (arith, last, all, length-map c.args.args.now text_of) in
+    inv.2 ∙ ap (filled texts) end ∙ ends texts

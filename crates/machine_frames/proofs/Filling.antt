@@ -1,5 +1,5 @@
 -- The array of the arguments while they are put into it.
-use Rattle.std.proofs.Common.{◌≡◌, ◌<◌, ◌≤◌, nat_le, IsTrue, subst, ℕ, zero, suc, true, List, [], ◌∷◌, length, map, replicate, Option, Some, None, refl, sym, ap, ◌∙◌, arith, slice_get, slice_set}
+use Rattle.std.proofs.Common.{◌≡◌, ◌<◌, ◌≤◌, nat_le, IsTrue, subst, ℕ, zero, suc, true, List, [], ◌∷◌, length, map, replicate, Some, refl, sym, ap, ◌∙◌, arith, slice_get, slice_set}
 use Rattle.std.proofs.lemmas.Bool.{leb-true}
 use Rattle.core_tree.specs.Text.{code_units}
 use Rattle.core_tree.specs.declared.ty.Ty.{Ty}

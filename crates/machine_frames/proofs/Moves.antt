@@ -1,5 +1,5 @@
 -- Ways in which the machine goes on.
-use Rattle.std.proofs.Common.{Bor, ◌≡◌, ◌≤◌, ◌<◌, ◌+◌, suc, drop, map, Some, ℕ, Bool, true, false, List, [], ◌∷◌, ◌++◌, length, Option, Result, Ok, Err, IfOk, refl, sym, ap, subst, ◌∙◌, arith}
+use Rattle.std.proofs.Common.{Bor, ◌≡◌, ◌<◌, ◌+◌, suc, drop, map, Some, ℕ, Bool, true, false, List, [], ◌∷◌, ◌++◌, length, Option, Result, Ok, Err, IfOk, refl, sym, ap, subst, ◌∙◌}
 use Rattle.relation_bounds.specs.declared.journal.Entry.{Entry}
 use Rattle.std.proofs.lemmas.Bool.{lt-ltb}
 use Rattle.core_tree.specs.declared.ty.Ty.{Ty}
@@ -28,7 +28,7 @@ use Rattle.machine_frames.specs.declared.frame.Frame.TheVariants as frame
 use Rattle.machine_frames.specs.declared.frame.Made.TheVariants as made
 use Rattle.machine_frames.specs.declared.frame.Focus.{Focus}
 use Rattle.machine_frames.specs.declared.frame.Focus.TheVariants as focus
-use Rattle.machine_frames.specs.Frames.{Setting, Point, world, called_with, loop_of, new_from, next_turn, run_maker, started, used, Begins, ended, Makes, resumed, stacked, focused, frame_weight, frames_weight, focus_weight, answer_weight, is_other, AreOther, IsFresh, Pushes, Moves}
+use Rattle.machine_frames.specs.Frames.{Setting, Point, world, called_with, loop_of, new_from, next_turn, run_maker, started, used, Begins, ended, Makes, resumed, stacked, focused, is_other, AreOther, IsFresh, Pushes, Moves}
 
 -- nothing is pushed
 pub stays : (b : Bool) (node : Parts → Run) (m n : Point) (y : Focus) → IsFresh b y [] → n.setting ≡ m.setting → n.taken ≡ m.taken → n.marks ≡ m.marks → n.frames ≡ m.frames → ((k f : ℕ) (J : List Entry) → node (meaning m.setting.program k) (world m f J) ≡ focused m.setting.program (meaning m.setting.program k) y (world n f J)) → Moves b node m n y

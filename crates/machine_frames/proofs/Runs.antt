@@ -1,16 +1,15 @@
 -- The frames make of a part's answer what the whole run gives.
-use Rattle.std.proofs.Common.{Bor, ◌≡◌, ℕ, zero, suc, ◌+◌, ◌≤◌, Bool, true, false, List, [], ◌∷◌, ◌++◌, drop, Vec, Global, Option, Some, None, refl, sym, ap, subst, ◌∙◌, arith, append_assoc, append-nil}
+use Rattle.std.proofs.Common.{Bor, ◌≡◌, ℕ, suc, ◌+◌, ◌≤◌, Bool, true, false, List, [], ◌∷◌, ◌++◌, Vec, Global, refl, sym, ap, ◌∙◌, arith, append_assoc, append-nil}
 use Rattle.core_tree.specs.declared.expr.Expr.{Expr, out-Expr}
 use Rattle.core_tree.specs.declared.stmt.Stmt.{Stmt, out-Stmt}
 use Rattle.core_tree.specs.declared.stmt.Catch.{Catch}
 use Rattle.core_tree.specs.declared.program.Program.{Program}
 use Rattle.relation_bounds.specs.declared.journal.Entry.{Entry}
-use Rattle.heap_arena.specs.declared.cell.Cell.TheVariants as value
 use Rattle.heap_arena.specs.Heap.{Value}
 use Rattle.evaluation.specs.declared.outcome.Outcome.{Outcome}
 use Rattle.evaluation.specs.declared.outcome.Outcome.TheVariants as outcome
 use Rattle.evaluation.specs.World.{World, KeptCall, Answer, Run, gives, after, value_then, normal_then}
-use Rattle.evaluation.specs.Calls.{Parts, Loop, block, initialise, construct}
+use Rattle.evaluation.specs.Calls.{Parts, Loop, block, construct}
 use Rattle.evaluation.specs.Evaluate.{expr_node}
 use Rattle.evaluation.specs.Execute.{prints, keeping, finally, after_body, turn, catching, catch_object, stmt_node, meaning}
 use Rattle.machine_frames.specs.declared.frame.LoopFrame.{LoopFrame}
@@ -22,7 +21,7 @@ use Rattle.machine_frames.specs.declared.frame.Frame.{Frame}
 use Rattle.machine_frames.specs.declared.frame.Frame.TheVariants as frame
 use Rattle.machine_frames.specs.declared.frame.Focus.{Focus}
 use Rattle.machine_frames.specs.declared.frame.Focus.TheVariants as focus
-use Rattle.machine_frames.specs.Frames.{loop_of, used, passed, built, repeated, followed, plainly, resumed, stacked, focused, Point, world, is_other, AreOther, IsFresh, Moves}
+use Rattle.machine_frames.specs.Frames.{loop_of, used, passed, repeated, followed, plainly, resumed, stacked, Point, world, is_other, AreOther, IsFresh, Moves}
 use Rattle.machine_frames.specs.Points.{wanted, Stands, room, depth_of, Gives, At}
 use Rattle.machine_frames.proofs.Opens.{opens_expr, opens_stmt, opens_loop}
 

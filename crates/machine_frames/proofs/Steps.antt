@@ -1,5 +1,5 @@
 -- Steps of the machine, and its ends.
-use Rattle.std.proofs.Common.{Bor, ◌≡◌, ℕ, suc, ◌+◌, ◌-◌, ◌≤◌, ◌<◌, Bool, true, false, List, [], ◌∷◌, ◌++◌, length, Ok, Err, Vec, Global, refl, sym, ap, subst, ◌∙◌, arith, append-nil, append_assoc, ◌*◌}
+use Rattle.std.proofs.Common.{Bor, ◌≡◌, ℕ, suc, ◌+◌, ◌-◌, ◌≤◌, ◌<◌, true, false, List, [], ◌∷◌, ◌++◌, length, Ok, Err, Vec, Global, refl, sym, ap, subst, ◌∙◌, arith, append-nil, append_assoc, ◌*◌}
 use Rattle.std.proofs.Math.Nat.{mul-suc}
 use Rattle.pb_io.specs.declared.sink.PutError.{PutError}
 use Rattle.pb_io.specs.Sink.{SinkState, Puts}
@@ -7,11 +7,11 @@ use Rattle.pb_io.proofs.Puts.{Puts-nil, Puts-stop, Puts-append}
 use Rattle.core_tree.specs.declared.expr.Expr.{Expr, out-Expr}
 use Rattle.core_tree.specs.declared.stmt.Stmt.{Stmt, out-Stmt}
 use Rattle.core_tree.specs.declared.program.Program.{Program}
-use Rattle.heap_arena.specs.Heap.{Heap, Value}
+use Rattle.heap_arena.specs.Heap.{Value}
 use Rattle.relation_bounds.specs.declared.journal.Entry.{Entry}
 use Rattle.evaluation.specs.declared.outcome.Outcome.{Outcome}
 use Rattle.evaluation.specs.declared.outcome.Outcome.TheVariants.{Normal, Spent}
-use Rattle.evaluation.specs.World.{World, Answer, Run, gives, after}
+use Rattle.evaluation.specs.World.{World, Answer, gives, after}
 use Rattle.evaluation.specs.Calls.{Parts, construct}
 use Rattle.evaluation.specs.Evaluate.{expr_node}
 use Rattle.evaluation.specs.Execute.{stmt_node, turn, meaning}
@@ -32,7 +32,7 @@ use Rattle.machine_frames.specs.declared.frame.Focus.{Focus}
 use Rattle.machine_frames.specs.declared.frame.Focus.TheVariants as focus
 use Rattle.machine_frames.specs.declared.frame.EarlyEnd.{EarlyEnd}
 use Rattle.machine_frames.specs.declared.frame.EarlyEnd.TheVariants as early
-use Rattle.machine_frames.specs.Frames.{loop_of, used, passed, plainly, repeated, resumed, focused, Setting, Point, world, is_other, construct_weight, frame_calling, call_frame_weight, frame_weight, frames_weight, focus_weight, entry_weight, IsLight, Moves, Fails}
+use Rattle.machine_frames.specs.Frames.{loop_of, repeated, resumed, focused, Setting, Point, world, is_other, frame_calling, call_frame_weight, frame_weight, frames_weight, focus_weight, entry_weight, IsLight, Moves}
 use Rattle.machine_frames.specs.Points.{Stands, At, Leads, Ends, Stops, work, sink_answer}
 use Rattle.machine_frames.proofs.Opens.{no_step_expr, no_step_stmt}
 use Rattle.machine_frames.proofs.Runs.{Result, stepped, at_expr, at_stmt, at_loop, at_construct, at_answer, at_turn, at_print, prints_bytes}

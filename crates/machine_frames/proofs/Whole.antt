@@ -1,10 +1,9 @@
 -- Whole runs of the machine.
-use Rattle.std.proofs.Common.{Bor, ◌≡◌, ◌⊎◌, ℕ, ◌+◌, ◌≤◌, true, false, nat_le, List, [], ◌∷◌, ◌++◌, Option, Some, None, MatchOption, Result, Ok, Err, slice_get, refl, sym, ap, subst, ◌∙◌, arith, append_assoc, append-nil, inl, inr}
+use Rattle.std.proofs.Common.{Bor, ◌≡◌, ◌⊎◌, ℕ, ◌+◌, true, nat_le, List, [], ◌∷◌, ◌++◌, Option, Some, None, MatchOption, Result, Ok, Err, slice_get, refl, sym, ap, ◌∙◌, arith, append_assoc, append-nil, inl, inr}
 use Rattle.std.specs.Option.{option_map_or}
-use Rattle.pb_io.specs.declared.sink.PutError.{PutError}
 use Rattle.pb_io.specs.declared.sink.PutError.TheVariants as put
 use Rattle.pb_io.specs.Faults.{Rose}
-use Rattle.pb_io.specs.Sink.{SinkState, with_bytes, AppendsPrefix, NoFewer, Puts}
+use Rattle.pb_io.specs.Sink.{SinkState, with_bytes, NoFewer}
 use Rattle.core_tree.specs.declared.what.What.{What}
 use Rattle.core_tree.specs.declared.stmt.Stmt.{Stmt}
 use Rattle.core_tree.specs.declared.program.Method.{Method}
@@ -17,7 +16,7 @@ use Rattle.evaluation.specs.declared.outcome.Outcome.TheVariants.{Normal}
 use Rattle.evaluation.specs.World.{World, Answer, gives}
 use Rattle.evaluation.specs.Calls.{block}
 use Rattle.evaluation.specs.Execute.{meaning}
-use Rattle.evaluation.specs.Run.{arguments_heap, ending, ending_of, first_world, has_short_arguments, run, run_main, Ending}
+use Rattle.evaluation.specs.Run.{arguments_heap, ending_of, first_world, has_short_arguments, run, run_main, Ending}
 use Rattle.machine_frames.specs.declared.frame.NormalFrame.TheVariants as normal
 use Rattle.machine_frames.specs.declared.frame.Frame.TheVariants as frame
 use Rattle.machine_frames.specs.declared.frame.Focus.TheVariants as focus
@@ -27,8 +26,8 @@ use Rattle.machine_frames.specs.declared.run.Beginning.{Beginning}
 use Rattle.machine_frames.specs.declared.stop.RunStop.{RunStop}
 use Rattle.machine_frames.specs.declared.stop.RunStop.TheVariants as how
 use Rattle.machine_frames.specs.Frames.{Point, world, resumed}
-use Rattle.machine_frames.specs.Points.{At, Ends, Stops, Drives, sink_answer}
-use Rattle.machine_frames.specs.Machine.{told, refusal, stopped, Tells, TellsEnd, EndsBy, EndsIf, EndsRun, EndsWhole, FinishesIf, IsBegun, IsMain, IsRefused}
+use Rattle.machine_frames.specs.Points.{At, Ends, Stops, Drives}
+use Rattle.machine_frames.specs.Machine.{told, stopped, Tells, TellsEnd, EndsBy, EndsIf, EndsRun, EndsWhole, IsBegun, IsMain, IsRefused}
 
 -- the run of a program whose arguments fit is that of main's body
 run_is : (p : Program) (args : List (List ℕ)) (main : Method) (steps : ℕ) (J : List Entry) → IsMain p main → has_short_arguments args ≡ true → nat_le (cell_count (arguments_heap args)) most_cells ≡ true → run p args steps J ≡ block p (meaning p steps) main.body (first_world main args steps J)

@@ -1,5 +1,5 @@
 -- Internal: what the machine's frames make of the answer of the part that is being run, and how its functions go on.
-use Rattle.std.specs.Prelude.{◌≡◌, ◌==◌, ℕ, suc, pos, ◌+◌, ◌*◌, ◌≤◌, Bool, true, false, List, [], ◌∷◌, ◌++◌, length, drop, slice_get, Option, Some, None, Result, Ok, Err, if◌then◌else◌}
+use Rattle.std.specs.Prelude.{◌≡◌, ◌==◌, ℕ, suc, ◌+◌, ◌*◌, ◌≤◌, Bool, true, false, List, [], ◌∷◌, ◌++◌, length, drop, slice_get, Option, Some, None, if◌then◌else◌}
 use Rattle.core_tree.specs.declared.ty.Ty.{Ty}
 use Rattle.core_tree.specs.declared.operator.UpOp.{UpOp}
 use Rattle.core_tree.specs.declared.expr.Expr.{Expr}
@@ -17,7 +17,7 @@ use Rattle.evaluation.specs.declared.place.Place.{Place}
 use Rattle.evaluation.specs.declared.place.Place.TheVariants as location
 use Rattle.evaluation.specs.World.{World, Answer, Run, gives, value_then, normal_then, ◌>>=◌, ◌>>◌}
 use Rattle.evaluation.specs.Values.{unary_value, binary_value, update_value, concatenated, text_length, text_equals}
-use Rattle.evaluation.specs.Objects.{field_types, make_instance, elements_at, class_at, value_fits, computed, read_place, write_local, write_cell, write_place, with_field, with_element, array_length, new_array, cast, is_instance, message_place}
+use Rattle.evaluation.specs.Objects.{field_types, elements_at, class_at, value_fits, computed, read_place, write_local, write_cell, write_place, with_field, with_element, array_length, new_array, cast, is_instance, message_place}
 use Rattle.evaluation.specs.Calls.{Parts, Loop, called, block, arguments, invoke, dispatch, dispatch_in, build, construct, initialise, initialise_class, returned, finished, leave}
 use Rattle.evaluation.specs.Evaluate.{choose}
 use Rattle.evaluation.specs.Execute.{printed, prints, print_value, throw, keeping, finally, operand, update_place, after_body, turn, catching, meaning}

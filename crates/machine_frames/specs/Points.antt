@@ -3,10 +3,9 @@ use Rattle.std.specs.Prelude.{◌≡◌, ℕ, suc, ◌+◌, ◌-◌, ◌*◌, �
 use Rattle.pb_io.specs.declared.sink.PutError.{PutError}
 use Rattle.pb_io.specs.Sink.{SinkState, Puts}
 use Rattle.core_tree.specs.declared.program.Program.{Program}
-use Rattle.heap_arena.specs.Heap.{Heap}
 use Rattle.relation_bounds.specs.declared.journal.Entry.{Entry}
 use Rattle.evaluation.specs.declared.outcome.Outcome.{Outcome}
-use Rattle.evaluation.specs.World.{Answer, gives, after}
+use Rattle.evaluation.specs.World.{Answer, after}
 use Rattle.evaluation.specs.Execute.{meaning}
 use Rattle.machine_frames.specs.declared.frame.Frame.{Frame}
 use Rattle.machine_frames.specs.declared.frame.Frame.TheVariants as frame

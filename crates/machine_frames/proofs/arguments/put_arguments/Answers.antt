@@ -1,11 +1,10 @@
-use Rattle.std.proofs.Common.{◌≡◌, ◌+◌, ◌&&◌, suc, true, [], length, map, option_map, refl, sym, ap, subst, ◌∙◌, arith, rules}
+use Rattle.std.proofs.Common.{◌≡◌, ◌+◌, suc, true, [], length, map, option_map, refl, sym, ap, ◌∙◌, arith, rules}
 use Rattle.std.proofs.lemmas.Option.{slice_get-map, slice_get_read}
 use Rattle.std.proofs.lemmas.List.{length-map}
 use Rattle.core_tree.specs.declared.ty.Ty.TheVariants as ty
 use Rattle.heap_arena.specs.declared.cell.Cell.TheVariants as value
 use Rattle.heap_arena.specs.declared.kind.Kind.TheVariants as kind
 use Rattle.heap_arena.specs.Heap.{made, written}
-use Rattle.evaluation.specs.Objects.{has_cell, is_there}
 use Rattle.machine_frames.specs.Machine.{text_of}
 use Rattle.machine_frames.proofs.Filling.{begins, ends, filled, further, has_next, short_at}
 use Rattle.machine_frames.proofs.arguments.put_arguments.Goals as goal

@@ -1,4 +1,4 @@
-use Rattle.std.proofs.Common.{false, refl, ap}
+use Rattle.std.proofs.Common.{false, ap}
 use Rattle.evaluation.specs.Calls.{arguments}
 use Rattle.evaluation.specs.Execute.{meaning}
 use Rattle.machine_frames.specs.Frames.{point, world, called_with}

@@ -1,9 +1,6 @@
-use Rattle.std.proofs.Common.{false, refl, ap}
+use Rattle.std.proofs.Common.{false, ap}
 use Rattle.evaluation.specs.Calls.{block}
 use Rattle.evaluation.specs.Execute.{meaning}
-use Rattle.machine_frames.specs.declared.frame.NormalFrame.TheVariants as normal
-use Rattle.machine_frames.specs.declared.frame.Frame.TheVariants as frame
-use Rattle.machine_frames.specs.declared.frame.Focus.TheVariants as focus
 use Rattle.machine_frames.specs.Frames.{point, world}
 use Rattle.machine_frames.proofs.Leaves.{first_and_rest}
 use Rattle.machine_frames.proofs.Moves.{pushes}

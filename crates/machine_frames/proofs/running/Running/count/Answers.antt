@@ -1,4 +1,4 @@
-use Rattle.std.proofs.Common.{◌≡◌, ◌<◌, ◌^◌, ℕ, Some, sym, ap, ◌∙◌, w32, refl}
+use Rattle.std.proofs.Common.{Some, sym, ap, w32}
 use Rattle.std.proofs.lemmas.Int.{fits_signed_from_abs}
 use Rattle.std.proofs.Math.Facts.{to_z_pos}
 use Rattle.machine_frames.proofs.Sums.{count_fits}

@@ -1,7 +1,7 @@
-use Rattle.std.proofs.Common.{refl, sym, ◌∙◌, false}
+use Rattle.std.proofs.Common.{false}
 use Rattle.std.proofs.lemmas.Result.{IfOk-weaker}
 use Rattle.evaluation.specs.Execute.{meaning}
-use Rattle.machine_frames.specs.Frames.{initialised_then, point, start_of, started, world}
+use Rattle.machine_frames.specs.Frames.{point, world}
 use Rattle.machine_frames.proofs.Starts.{found_none, found_start, starts_none, starts_with}
 use Rattle.machine_frames.proofs.Moves.{as_node}
 use Rattle.machine_frames.proofs.running.Running.initialise.Goals as goal

@@ -1,4 +1,4 @@
-use Rattle.std.proofs.Common.{refl, sym, ◌∙◌, false}
+use Rattle.std.proofs.Common.{refl, false}
 use Rattle.std.proofs.lemmas.Result.{IfOk-weaker}
 use Rattle.evaluation.specs.Execute.{meaning}
 use Rattle.machine_frames.specs.Frames.{initialised_then, point, start_of, started, world}

@@ -1,4 +1,4 @@
-use Rattle.std.proofs.Common.{false, refl, sym, ap, ◌∙◌}
+use Rattle.std.proofs.Common.{false, refl}
 use Rattle.machine_frames.proofs.Leaves.{printed_bytes}
 use Rattle.machine_frames.proofs.Moves.{stays}
 use Rattle.machine_frames.proofs.running.Running.print.Goals as goal

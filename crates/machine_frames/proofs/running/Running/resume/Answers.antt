@@ -1,4 +1,3 @@
-use Rattle.std.proofs.Common.{refl}
 use Rattle.machine_frames.proofs.Moves.{both}
 use Rattle.machine_frames.proofs.Steps.{step_value, step_call, step_turn, step_normal, step_plain}
 use Rattle.machine_frames.proofs.running.Running.resume.Goals as goal

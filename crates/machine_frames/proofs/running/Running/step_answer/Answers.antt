@@ -1,6 +1,5 @@
-use Rattle.std.proofs.Common.{arith, refl, ap}
+use Rattle.std.proofs.Common.{arith, refl}
 use Rattle.std.proofs.lemmas.Result.{err_from_is_err_and}
-use Rattle.machine_frames.specs.Frames.{point}
 use Rattle.machine_frames.proofs.Steps.{ends_answer, stops}
 use Rattle.machine_frames.proofs.running.Running.step_answer.Goals as goal
 

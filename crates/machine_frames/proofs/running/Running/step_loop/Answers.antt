@@ -1,4 +1,4 @@
-use Rattle.std.proofs.Common.{arith, refl}
+use Rattle.std.proofs.Common.{arith}
 use Rattle.std.proofs.lemmas.Result.{err_from_is_err_and}
 use Rattle.machine_frames.proofs.Steps.{step_loop, stops}
 use Rattle.machine_frames.proofs.running.Running.step_loop.Goals as goal

@@ -1,4 +1,4 @@
-use Rattle.std.proofs.Common.{arith, refl}
+use Rattle.std.proofs.Common.{arith}
 use Rattle.std.proofs.lemmas.Result.{err_from_is_err_and}
 use Rattle.machine_frames.proofs.Steps.{ends_stmt, step_stmt, stops}
 use Rattle.machine_frames.proofs.running.Running.step_stmt.Goals as goal

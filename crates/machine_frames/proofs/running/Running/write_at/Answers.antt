@@ -1,4 +1,4 @@
-use Rattle.std.proofs.Common.{refl, arith, ◌≡◌, false}
+use Rattle.std.proofs.Common.{refl, arith, false}
 use Rattle.std.proofs.lemmas.Result.{IfOk-weaker}
 use Rattle.machine_frames.proofs.Sums.{no_cell}
 use Rattle.machine_frames.proofs.Moves.{as_node}

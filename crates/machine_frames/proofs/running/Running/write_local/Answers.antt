@@ -1,4 +1,4 @@
-use Rattle.std.proofs.Common.{false, refl, sym, ap, arith}
+use Rattle.std.proofs.Common.{false, refl, arith}
 use Rattle.machine_frames.specs.Frames.{point, world}
 use Rattle.machine_frames.proofs.Leaves.{wrote_local, wrote_no_local}
 use Rattle.machine_frames.proofs.Moves.{stays}

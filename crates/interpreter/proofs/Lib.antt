@@ -1,8 +1,9 @@
-pub mod Moves
 pub mod Opens
-pub mod Rows
+pub mod Moves
 pub mod Runs
-pub mod NoSteps
 pub mod Steps
-pub mod Typed
+pub mod Leaves
+pub mod Sums
+pub mod Filling
 pub mod Whole
+pub mod Starts

@@ -1,43 +1,38 @@
--- One level of a tree, and one level of depth, as the meaning reads them.
-use Rattle.std.proofs.Common.{◌≡◌, ℕ, zero, suc, ◌≤◌, List, ℤ, refl, arith}
-use denote.Hole.Carrier.{out, shown, hidden}
-use Rattle.interpreter.specs.declared.program.BinOp.{BinOp}
-use Rattle.interpreter.specs.declared.program.Expr.{Expr, out-Expr}
-use Rattle.interpreter.specs.declared.program.Expr.TheBlock.{shown-the_row-Expr-0}
-use Rattle.interpreter.specs.declared.program.Expr.TheOpen as expr
-use Rattle.interpreter.specs.declared.program.Expr.TheViews as view
-use Rattle.interpreter.specs.declared.program.Stmt.{Stmt}
-use Rattle.interpreter.specs.World.{World, gives}
-use Rattle.interpreter.specs.Evaluate.{expr_node}
-use Rattle.interpreter.specs.Execute.{stmt_node, meaning}
-use Rattle.interpreter.specs.declared.outcome.Outcome.TheVariants.{Spent}
+-- What a node that is entered does, and that a node with no step left is spent.
+use Rattle.std.proofs.Common.{◌≡◌, ℕ, zero, suc, ◌≤◌, refl, arith}
+use Rattle.core_tree.specs.declared.expr.Expr.{Expr, out-Expr}
+use Rattle.core_tree.specs.declared.stmt.Stmt.{Stmt, out-Stmt}
+use Rattle.core_tree.specs.declared.program.Program.{Program}
+use Rattle.relation_bounds.specs.declared.journal.Entry.{Entry}
+use Rattle.evaluation.specs.declared.outcome.Outcome.TheVariants.{Spent}
+use Rattle.evaluation.specs.World.{gives}
+use Rattle.evaluation.specs.Calls.{Loop}
+use Rattle.evaluation.specs.Evaluate.{expr_node}
+use Rattle.evaluation.specs.Execute.{stmt_node, turn, meaning}
+use Rattle.interpreter.specs.Frames.{Point, world}
+use Rattle.std.specs.Prelude.{List}
 
-pub open-Binary : (op : BinOp) (a b : Expr) → out-Expr (view.Binary op a b) ≡ expr.Binary op a b
-unfolding out-Expr out shown-the_row-Expr-0 shown hidden
-open-Binary op a b = refl
-
--- the world with these locals and so many steps left
-abbrev pub with_fuel : List ℤ → ℕ → World
-with_fuel locals f = record { locals = locals; fuel = f }
-
--- a node that is entered does what its parts do, one level deeper and with one step less
-pub opens_expr : (d f : ℕ) (e : Expr) (locals : List ℤ) → suc f ≤ d → (k : ℕ) × (f ≤ k) × ((meaning d).expr e (with_fuel locals (suc f)) ≡ expr_node (meaning k).expr (out-Expr e) (with_fuel locals f))
+pub opens_expr : (p : Program) (d f : ℕ) (e : Expr) (m : Point) (J : List Entry) → suc f ≤ d → (k : ℕ) × (f ≤ k) × ((meaning p d).expr e (world m (suc f) J) ≡ expr_node p (meaning p k) (out-Expr e) (world m f J))
 unfolding meaning
-opens_expr zero f e locals le = absurd (omega arith)
-opens_expr (suc k) f e locals le = (k, omega arith, refl)
+opens_expr p zero f e m J le = absurd (omega arith)
+opens_expr p (suc k) f e m J le = (k, omega arith, refl)
 
-pub opens_stmt : (d f : ℕ) (s : Stmt) (locals : List ℤ) → suc f ≤ d → (k : ℕ) × (f ≤ k) × ((meaning d).stmt s (with_fuel locals (suc f)) ≡ stmt_node (meaning k) s (with_fuel locals f))
+pub opens_stmt : (p : Program) (d f : ℕ) (s : Stmt) (m : Point) (J : List Entry) → suc f ≤ d → (k : ℕ) × (f ≤ k) × ((meaning p d).stmt s (world m (suc f) J) ≡ stmt_node p (meaning p k) (out-Stmt s) (world m f J))
 unfolding meaning
-opens_stmt zero f s locals le = absurd (omega arith)
-opens_stmt (suc k) f s locals le = (k, omega arith, refl)
+opens_stmt p zero f s m J le = absurd (omega arith)
+opens_stmt p (suc k) f s m J le = (k, omega arith, refl)
 
--- with no step left a node is spent at its entry
-pub no_step_expr : (d : ℕ) (e : Expr) (locals : List ℤ) → (meaning d).expr e (with_fuel locals 0) ≡ gives Spent (with_fuel locals 0)
+pub opens_loop : (p : Program) (d f : ℕ) (l : Loop) (m : Point) (J : List Entry) → suc f ≤ d → (k : ℕ) × (f ≤ k) × ((meaning p d).loop l (world m f J) ≡ turn p (meaning p k) l (world m f J))
 unfolding meaning
-no_step_expr zero e locals = refl
-no_step_expr (suc d) e locals = refl
+opens_loop p zero f l m J le = absurd (omega arith)
+opens_loop p (suc k) f l m J le = (k, omega arith, refl)
 
-pub no_step_stmt : (d : ℕ) (s : Stmt) (locals : List ℤ) → (meaning d).stmt s (with_fuel locals 0) ≡ gives Spent (with_fuel locals 0)
+pub no_step_expr : (p : Program) (d : ℕ) (e : Expr) (m : Point) (J : List Entry) → (meaning p d).expr e (world m 0 J) ≡ gives Spent (world m 0 J)
 unfolding meaning
-no_step_stmt zero s locals = refl
-no_step_stmt (suc d) s locals = refl
+no_step_expr p zero e m J = refl
+no_step_expr p (suc d) e m J = refl
+
+pub no_step_stmt : (p : Program) (d : ℕ) (s : Stmt) (m : Point) (J : List Entry) → (meaning p d).stmt s (world m 0 J) ≡ gives Spent (world m 0 J)
+unfolding meaning
+no_step_stmt p zero s m J = refl
+no_step_stmt p (suc d) s m J = refl

@@ -1,96 +1,115 @@
 -- Internal: the points of whole runs, and what a step, a drive and a run of the machine do.
-use Rattle.std.specs.Prelude.{◌≡◌, ℕ, ◌+◌, ◌-◌, ◌*◌, ◌≤◌, ◌<◌, List, [], ◌∷◌, ◌++◌, length, Result, Ok, Err, IfOk}
+use Rattle.std.specs.Prelude.{◌≡◌, ℕ, suc, ◌+◌, ◌-◌, ◌*◌, ◌≤◌, ◌<◌, List, [], ◌∷◌, ◌++◌, length, Result, Ok, Err}
 use Rattle.pb_io.specs.declared.sink.PutError.{PutError}
 use Rattle.pb_io.specs.Sink.{SinkState, Puts}
-use Rattle.interpreter.specs.declared.program.Program.{Program}
-use Rattle.interpreter.specs.declared.outcome.Outcome.{Outcome}
+use Rattle.core_tree.specs.declared.program.Program.{Program}
+use Rattle.relation_bounds.specs.declared.journal.Entry.{Entry}
+use Rattle.evaluation.specs.declared.outcome.Outcome.{Outcome}
+use Rattle.evaluation.specs.World.{Answer, after}
+use Rattle.evaluation.specs.Execute.{meaning}
 use Rattle.interpreter.specs.declared.frame.Frame.{Frame}
+use Rattle.interpreter.specs.declared.frame.Frame.TheVariants as frame
 use Rattle.interpreter.specs.declared.frame.Focus.{Focus}
+use Rattle.interpreter.specs.declared.frame.Focus.TheVariants as focus
 use Rattle.interpreter.specs.declared.frame.Next.{Next}
 use Rattle.interpreter.specs.declared.frame.Next.TheVariants as next
 use Rattle.interpreter.specs.declared.frame.EarlyEnd.{EarlyEnd}
 use Rattle.interpreter.specs.declared.frame.EarlyEnd.TheVariants as early
-use Rattle.interpreter.specs.declared.running.Running.{Running}
-use Rattle.interpreter.specs.World.{Answer, after}
-use Rattle.interpreter.specs.Execute.{meaning}
-use Rattle.interpreter.specs.Run.{run, EndsWhole}
-use Rattle.interpreter.specs.Frames.{resumed, focused, world, weight}
+use Rattle.interpreter.specs.Frames.{Point, resumed, focused, world, answer_weight, entry_weight, frames_weight, focus_weight}
 
--- what the frames from the top make of an answer, each at a depth of at least g
-abbrev pub Stands : ℕ → List Frame → (Answer → Answer) → Type 0
-Stands g [] make = (a : Answer) → make a ≡ a
-Stands g (x ∷ xs) make =
-    (k : ℕ) × (g ≤ k) × (rest : Answer → Answer) × Stands g xs rest × ((a : Answer) → make a ≡ rest (resumed (meaning k) x a))
+-- ---- whole runs
 
--- with so many bytes printed and f steps left, a whole run gives what the frames make of the part at the focus
-pub record Gives (m : Running) (printed : List ℕ) (x : Focus) (f : ℕ) (whole : Answer) : Type 0 where
+-- the depth that a frame wants: a loop's frame stands over one turn more
+abbrev pub wanted : Frame → ℕ → ℕ
+wanted (frame.Loop x) k = k
+wanted _ k = suc k
+
+-- what the frames from the top make of an answer, each at a depth of its own
+abbrev pub Stands : Program → ℕ → List Frame → (Answer → Answer) → Type 0
+Stands p g [] make = (a : Answer) → make a ≡ a
+Stands p g (x ∷ xs) make =
+    (k : ℕ) × (g ≤ wanted x k) × (rest : Answer → Answer) × Stands p g xs rest × ((a : Answer) → make a ≡ rest (resumed p (meaning p k) x a))
+
+-- behind a node that has been entered there is one step less than there was depth
+abbrev pub room : Focus → ℕ → ℕ
+room (focus.Expr e) f = f
+room (focus.Stmt s) f = f
+room _ f = suc f
+
+-- the depth that a focus wants: a further turn is one lower
+abbrev pub depth_of : Focus → ℕ → ℕ
+depth_of (focus.Loop l) f = suc f
+depth_of _ f = f
+
+-- with so many bytes printed, f steps left and these answers to come, a whole run gives what the frames make of the part
+-- at the focus
+pub record Gives (m : Point) (printed : List ℕ) (x : Focus) (f : ℕ) (J : List Entry) (whole : Answer) : Type 0 where
   pub make : Answer → Answer
   pub depth : ℕ
-  pub frames : Stands f m.frames make
-  pub deep : f ≤ depth
-  pub same : whole ≡ after printed (make (focused (meaning depth) x (world m f)))
+  pub frames : Stands m.setting.program (room x f) m.frames make
+  pub deep : depth_of x f ≤ depth
+  pub same : whole ≡ after printed [] (make (focused m.setting.program (meaning m.setting.program depth) x (world m f J)))
 
--- a run, by the number of its steps, comes by this point
-pub record At (R : ℕ → Answer) (m : Running) (printed : List ℕ) (x : Focus) : Type 0 where
-  pub gives : (f : ℕ) → Gives m printed x f (R (m.taken + f))
+-- a run, by the number of its steps and the answers to come, comes by this point
+pub record At (R : ℕ → List Entry → Answer) (m : Point) (printed : List ℕ) (x : Focus) : Type 0 where
+  pub gives : (f : ℕ) (J : List Entry) → Gives m printed x f J (R (m.taken + f) J)
 
--- what the sink answered to the puts of a machine that came to this result
-abbrev pub sink_answer : Result Outcome EarlyEnd → Result (Unit {0}) PutError
-sink_answer (Ok o) = Ok tt
-sink_answer (Err early.OutOfMemory) = Ok tt
-sink_answer (Err (early.Refused error)) = Err error
+-- ---- steps
 
--- a run that comes by the point m, x has, with the steps that n has taken, so many bytes of output more, and the
--- sink gave this answer to their put
-abbrev pub PutsMore : Running → Focus → SinkState → Running → SinkState → Result Outcome EarlyEnd → Type 0
-PutsMore m x before n now result =
-    (R : ℕ → Answer) (printed : List ℕ) → At R m printed x → (more : List ℕ) × ((R n.taken).out ≡ printed ++ more) × Puts before now more (sink_answer result)
-
--- each run that comes by the first point comes by the second, and what it prints on the way was put
-pub record Leads (m : Running) (x : Focus) (before : SinkState) (n : Running) (y : Focus) (now : SinkState) : Type 0 where
+-- the machine goes from the first point to the second and prints these bytes: each run that comes by the first comes by
+-- the second
+pub record Leads (m : Point) (x : Focus) (before : SinkState) (n : Point) (y : Focus) (now : SinkState) : Type 0 where
   pub more : List ℕ
   pub put : Puts before now more {T = Unit {0}} (Ok tt)
-  pub on : (R : ℕ → Answer) (printed : List ℕ) → At R m printed x → At R n (printed ++ more) y
-  pub budget : n.budget ≡ m.budget
-  pub within : n.taken ≤ n.budget
+  pub on : (R : ℕ → List Entry → Answer) (printed : List ℕ) → At R m printed x → At R n (printed ++ more) y
+  pub setting : n.setting ≡ m.setting
+  pub marks : n.marks ≡ m.marks
+  pub within : n.taken ≤ n.setting.budget
 
--- each run that comes by the point m, x, with n's steps as its budget, takes them all
-abbrev pub AllTaken : Running → Focus → Running → Type 0
-AllTaken m x n = (R : ℕ → Answer) (printed : List ℕ) → At R m printed x → (R n.taken).world.fuel ≡ 0
+-- each run that comes by this point, with the budget as its steps, ends with this outcome and in the heap of now, it has
+-- so many steps and all answers left, and its output, which is that of a run with just the steps taken, was put
+pub record Ends (m : Point) (x : Focus) (before : SinkState) (n : Point) (now : SinkState) (o : Outcome) : Type 0 where
+  pub within : n.taken ≤ m.setting.budget
+  pub setting : n.setting ≡ m.setting
+  pub marks : n.marks ≡ m.marks
+  pub outcome : (R : ℕ → List Entry → Answer) (printed : List ℕ) (J : List Entry) → At R m printed x → (R m.setting.budget J).outcome ≡ o
+  pub heap : (R : ℕ → List Entry → Answer) (printed : List ℕ) (J : List Entry) → At R m printed x → (R m.setting.budget J).world.now ≡ n.now
+  pub fuel : (R : ℕ → List Entry → Answer) (printed : List ℕ) (J : List Entry) → At R m printed x → (R m.setting.budget J).world.fuel + n.taken ≡ m.setting.budget
+  pub journal : (R : ℕ → List Entry → Answer) (printed : List ℕ) (J : List Entry) → At R m printed x → (R m.setting.budget J).world.journal ≡ J
+  pub put : (R : ℕ → List Entry → Answer) (printed : List ℕ) (J : List Entry) → At R m printed x → (more : List ℕ) × ((R m.setting.budget J).out ≡ printed ++ more) × ((R n.taken J).out ≡ printed ++ more) × Puts before now more {T = Unit {0}} (Ok tt)
 
--- each run that comes by this point, with the budget as its steps, has this outcome, and its output was put
-pub record Ends (m : Running) (x : Focus) (before : SinkState) (n : Running) (now : SinkState) (o : Outcome) : Type 0 where
-  pub within : n.taken ≤ m.budget
-  pub outcome : (R : ℕ → Answer) (printed : List ℕ) → At R m printed x → (R m.budget).outcome ≡ o
-  pub fuel : (R : ℕ → Answer) (printed : List ℕ) → At R m printed x → (R m.budget).world.fuel + n.taken ≡ m.budget
-  pub exact : (R : ℕ → Answer) (printed : List ℕ) → At R m printed x → (R n.taken).out ≡ (R m.budget).out
-  pub all_taken : AllTaken m x n
-  pub put : PutsMore m x before n now (Ok o)
+-- what the sink answered to the puts of a machine that stopped early
+abbrev pub sink_answer : EarlyEnd → Result (Unit {0}) PutError
+sink_answer early.OutOfMemory = Ok tt
+sink_answer (early.Refused error) = Err error
 
--- the machine stopped early: what was put is a prefix of the output, and all of it if the sink refused nothing
-pub record Stops (m : Running) (x : Focus) (before : SinkState) (n : Running) (now : SinkState) (end : EarlyEnd) : Type 0 where
-  pub within : n.taken ≤ m.budget
-  pub all_taken : AllTaken m x n
-  pub put : PutsMore m x before n now (Err end)
+-- the machine stopped early: what was put, or a prefix of it where the sink refused, begins what the run with just the
+-- steps taken prints
+pub record Stops (m : Point) (x : Focus) (before : SinkState) (n : Point) (now : SinkState) (end : EarlyEnd) : Type 0 where
+  pub within : n.taken ≤ m.setting.budget
+  pub put : (R : ℕ → List Entry → Answer) (printed : List ℕ) (J : List Entry) → At R m printed x → (more : List ℕ) × ((rest : List ℕ) × ((R n.taken J).out ≡ printed ++ (more ++ rest)) × Puts before now more (sink_answer end))
 
 -- the work that is left: what the frames and the steps can still lead to
-abbrev pub work : Running → Focus → ℕ
-work m x = 3 * (m.budget - m.taken) + 2 * length m.frames + weight x
+abbrev pub work : Point → Focus → ℕ
+work m x =
+    let classes = length m.setting.program.classes in
+    (answer_weight + 2 + entry_weight classes) * (m.setting.budget - m.taken) + frames_weight classes m.frames + focus_weight x
 
 -- one step of the machine
-abbrev pub Steps : Running → Focus → SinkState → Running → SinkState → Result Next EarlyEnd → Type 0
+abbrev pub Steps : Point → Focus → SinkState → Point → SinkState → Result Next EarlyEnd → Type 0
 Steps m x before n now (Ok (next.On y)) = Leads m x before n y now × (work n y < work m x)
 Steps m x before n now (Ok (next.End o)) = Ends m x before n now o
 Steps m x before n now (Err end) = Stops m x before n now end
 
+-- the same, whatever the sink is, which no call reaches
+abbrev pub StepsAlone : Point → Focus → Point → Result Next EarlyEnd → Type 0
+StepsAlone m x n end = (sink : SinkState) → Steps m x sink n sink end
+
+-- the machine goes on with an outcome, a frame having been taken off
+abbrev pub Resumes : Frame → Outcome → Point → Point → Focus → Type 0
+Resumes x o m n y = (m0 : Point) (sink : SinkState) → m0 ≡ record m { frames = x ∷ m.frames } → Leads m0 (focus.Answer o) sink n y sink × (work n y < work m0 (focus.Answer o))
+
 -- steps to the end
-abbrev pub Drives : Running → Focus → SinkState → Running → SinkState → Result Outcome EarlyEnd → Type 0
+abbrev pub Drives : Point → Focus → SinkState → Point → SinkState → Result Outcome EarlyEnd → Type 0
 Drives m x before n now (Ok o) = Ends m x before n now o
 Drives m x before n now (Err end) = Stops m x before n now end
-
--- a whole run of a program
-pub record Runs (p : Program) (budget : ℕ) (before : SinkState) (taken : ℕ) (now : SinkState) (result : Result Outcome EarlyEnd) : Type 0 where
-  pub within : taken ≤ budget
-  pub all_taken : (run p taken).world.fuel ≡ 0
-  pub put : Puts before now (run p taken).out (sink_answer result)
-  pub ends : IfOk result (λ o. EndsWhole p budget o before now taken)

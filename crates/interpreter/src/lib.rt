@@ -1,26 +1,44 @@
-//! The machine that runs a resolved program, and the reference evaluation that it agrees with.
+//! What the machine of the whole language keeps between its steps, and why steps that go on as the parts of a node do make
+//! a whole run.
 //!
-//! `program` has the resolved program: numbered locals, expressions and statements. `specs/World`, `specs/Evaluate`
-//! and `specs/Execute` say what they do, by recursion on the steps that are left and the tree; `specs/Run` says what
-//! a run is. `Machine::run` does the same with explicit frames and no recursion, into any sink.
+//! A step of the machine pushes frames and says before which part it stands. `specs/Frames` says what frames make of the
+//! answer of that part, and what it means that the machine goes on as a part goes on; `specs/Points` says how a step leads
+//! each whole run from one point to the next, for every number of steps that may be left. `proofs/Runs` and
+//! `proofs/Steps` show that a machine whose functions go on so does what the reference evaluation does: its outcome, its
+//! output, its steps and its heap. The functions themselves are not here yet.
 //!
-//! Inside, `running` is a run in progress, `frame` what it keeps between its steps, and `line` prints a number.
-//! `specs/Frames` says what the frames make of the answer of the part that is being run, and `specs/Points` how a
-//! step leads from one point of every whole run to the next. `proofs/Rows` has worked runs.
-//!
-//! Read `program`, the files of `specs/` in their order, `machine`, then `running`.
+//! Read `frame`, `running`, then `specs/Frames` and `specs/Points`.
 #![tactic(auto)]
 
+mod arguments;
+mod blocks;
+mod calls;
+mod cells;
+mod exceptions;
+mod expressions;
 mod frame;
-mod line;
+mod locals;
 mod machine;
-mod outcome;
-mod program;
+mod makers;
+mod making;
+mod objects;
+mod operators;
+mod places;
+mod printing;
+mod resume;
+mod run;
 mod running;
 mod stack;
-#[cfg(test)]
-mod tests;
+mod start;
+mod statements;
+mod step;
+mod stop;
 
-pub use machine::{Machine, RunStop, never_stuck};
-pub use outcome::Outcome;
-pub use program::{BinOp, Expr, Program, Stmt};
+pub use frame::{
+    CallEnd, CallFrame, Callee, EarlyEnd, Focus, Frame, LoopFrame, LoopParts, Made, Next,
+    NormalFrame, PlaceUse, PlainFrame, ValueFrame,
+};
+pub use machine::Machine;
+pub use running::Running;
+pub use stack::Stack;
+pub use stop::RunStop;

@@ -1,113 +1,85 @@
-ghost use Rattle.std.specs.Prelude.{◌≡◌, ◌≢◌, ◌⊎◌, ℕ, ◌≤◌, true, false};
-ghost use Rattle.pb_io.specs.Faults.{Rose};
-ghost use Rattle.pb_io.specs.Sink.{with_bytes, NoFewer};
-ghost use Rattle.interpreter.specs.declared.program.Program.{Program};
-ghost use Rattle.interpreter.specs.declared.outcome.Outcome.TheVariants.{Stuck};
-ghost use Rattle.interpreter.specs.WellTyped.{IsWellTyped};
-ghost use Rattle.interpreter.specs.Run.{run, EndsAs};
+//! The machine as callers see it.
 
-use crate::frame::EarlyEnd;
-use crate::running::Running;
-use crate::{Outcome, Program};
-use pb_io::{PutError, Sink};
+ghost use Rattle.std.specs.Prelude.{◌≡◌, MatchOption, Some, map};
+ghost use Rattle.core_tree.specs.WellTyped.{IsWellTyped};
+ghost use Rattle.interpreter.specs.Machine.{text_of, EndsRun, IsFresh};
+
+use crate::run::run_main;
+use crate::stop::RunStop;
+use core_tree::Program;
+use heap_arena::Store;
+use pb_io::Sink;
 use std::alloc::Global;
-use std::marker::Model;
+use type_safety::never_stuck;
 
-/// How a run of the machine ended.
-#[derive(Clone, Copy, Debug, PartialEq, Eq, Drop)]
-pub enum RunStop {
-    /// The program ended normally.
-    Done,
-    /// The budget's steps were taken, and the program wanted one more.
-    StepsSpent,
-    /// Memory ran out, in the machine or in the sink. It may come at any point.
-    OutOfMemory,
-    /// The sink failed. It comes only where the sink's count of faults rose in the run.
-    WriteFault,
-}
-
-impl From<PutError> for RunStop {
-    ghost use Rattle.interpreter.specs.Machine.{refusal};
-
-    ghost from_gives = { λ error stop. stop ≡ refusal error };
-
-    fn from(error: PutError) -> Self {
-        match error {
-            PutError::WriteFault => RunStop::WriteFault,
-            PutError::OutOfMemory => RunStop::OutOfMemory,
-        }
-    }
-}
-
-/// The machine: it runs a program once. Contracts see the steps that it took and whether its sink refused a call.
+/// The machine over a store: it runs a program once, with explicit frames and no recursion.
 #[derive(Drop)]
-pub struct Machine {
+pub struct Machine<S> {
     alloc: Global,
+    store: Option<S>,
     steps_taken: u64,
-    sink_refused: bool,
 }
 
-impl Model for Machine {
-    ghost use Rattle.interpreter.specs.Machine.{MachineState};
-
-    ghost Value = { MachineState };
-
-    ghost view = { λ m. record { steps_taken = m.steps_taken; sink_refused = m.sink_refused } };
-}
-
-impl Machine {
-    /// A machine that has taken no step. It takes no memory.
-    pub fn new(alloc: Global) -> Machine
+impl<S: Store + Drop> Machine<S> {
+    /// A machine that has taken no step, over this store. It takes no memory.
+    pub fn new(alloc: Global, store: S) -> Machine<S>
+        ensures store { result.store ≡ Some store }
         ensures steps { result.steps_taken ≡ 0 }
-        ensures sink { result.sink_refused ≡ false }
     {
         Machine {
             alloc,
+            store: Some(store),
             steps_taken: 0,
-            sink_refused: false,
         }
     }
 
-    /// Runs the program with a budget of steps, each of its locals beginning with 0. What it prints goes into the
-    /// sink, a put for each line, and it asks for no flush.
+    /// Runs a well-typed program with these arguments and a budget of steps. What it prints goes into the sink, a put for each
+    /// print, and it asks for no flush. An argument of more than 1,048,576 code units is `Full(Text)` before the first step.
     ///
-    /// `Done` and `StepsSpent` are as the reference evaluation ends with this budget, and the output is whole.
-    /// `OutOfMemory`, which may come at any point, and `WriteFault` leave a prefix of what a budget of the steps
-    /// taken prints.
-    pub fn run<O: Sink>(&mut self, program: &Program, steps: u64, sink: &mut O) -> RunStop
+    /// Every stop but the last two is that of the reference evaluation with this budget, and its output is whole; after
+    /// `Done` and `Uncaught` the store holds the heap that it left, and no mark stands. `OutOfMemory`, which may come at any
+    /// point, and `WriteFault` leave a prefix of what a run with the steps taken prints.
+    pub fn run<O: Sink>(
+        &mut self,
+        program: &Program,
+        args: &[String],
+        steps: u64,
+        sink: &mut O,
+    ) -> RunStop
         requires well_typed { IsWellTyped program.now }
-        requires fresh { self.old.steps_taken ≡ 0 }
-        ensures run { EndsAs program.now steps (O.state sink.old) (O.state sink.new) self.new.steps_taken result }
-        ensures within { self.new.steps_taken ≤ steps }
-
-        // A run with just the steps taken takes them all.
-        ensures all_taken { (run program.now self.new.steps_taken).world.fuel ≡ 0 }
-
-        ensures flushed { NoFewer (O.state sink.old).flushed (O.state sink.new).flushed }
-        ensures later { (O.state sink.old).faults ≤ (O.state sink.new).faults }
-        ensures cause { result ≡ RunStop.WriteFault → Rose (O.state sink.old).faults (O.state sink.new).faults }
-
-        // A sink that refused a call ended the run. One that refused none has the output of all steps taken.
-        ensures refused { self.new.sink_refused ≡ true →
-            (result ≡ RunStop.OutOfMemory) ⊎ (result ≡ RunStop.WriteFault) }
-        ensures write_fault { result ≡ RunStop.WriteFault → self.new.sink_refused ≡ true }
-        ensures whole { self.new.sink_refused ≡ false →
-            (O.state sink.new).written ≡
-            with_bytes (O.state sink.old).written (run program.now self.new.steps_taken).out }
+        requires fresh { MatchOption self.old.store ⊥ (λ store.
+            IsFresh program.now (S.now store) (S.marks store) (S.field_types store)) }
+        ensures { MatchOption self.new.store ⊥ (λ store. EndsRun program.now (map text_of args.now) steps
+            (O.state sink.old) (O.state sink.new) (S.now store) (S.marks store) self.new.steps_taken (Some result)) }
     {
-        let mut running = Running::new(self.alloc, steps);
-        let ended = running.run(program, sink);
-        self.steps_taken = running.taken;
-        self.sink_refused = matches!(ended, Err(EarlyEnd::Refused(_)));
-        match ended {
-            Ok(outcome) => match outcome {
-                Outcome::Normal => RunStop::Done,
-                Outcome::Spent => RunStop::StepsSpent,
-                Outcome::Value(_) | Outcome::Stuck => unreachable!(),
-            },
-            Err(EarlyEnd::OutOfMemory) => RunStop::OutOfMemory,
-            Err(EarlyEnd::Refused(error)) => RunStop::from(error),
+        match self.attempt(program, args, steps, sink) {
+            Some(stop) => stop,
+            None => {
+                never_stuck();
+                unreachable!()
+            }
         }
+    }
+
+    /// The same for a program that may not be well typed: `None` where a part of it was reached that has no meaning, and the
+    /// reference evaluation is stuck with this budget.
+    pub fn attempt<O: Sink>(
+        &mut self,
+        program: &Program,
+        args: &[String],
+        steps: u64,
+        sink: &mut O,
+    ) -> Option<RunStop>
+        requires fresh { MatchOption self.old.store ⊥ (λ store.
+            IsFresh program.now (S.now store) (S.marks store) (S.field_types store)) }
+        ensures { MatchOption self.new.store ⊥ (λ store. EndsRun program.now (map text_of args.now) steps
+            (O.state sink.old) (O.state sink.new) (S.now store) (S.marks store) self.new.steps_taken result) }
+    {
+        let store = self.store.take()?;
+        let ended = run_main(self.alloc, program, store, args, steps, sink);
+        self.store = Some(ended.store);
+        self.steps_taken = ended.taken;
+        ended.stop
     }
 
     /// How many steps the run took: the nodes that were entered.
@@ -117,15 +89,10 @@ impl Machine {
         self.steps_taken
     }
 
-    /// Whether a call of the sink failed in the run, so that the sink should not be used any more.
-    pub fn sink_refused(&self) -> bool
-        ensures { result ≡ self.now.sink_refused }
+    /// The store, with the heap that the run left.
+    pub fn into_store(self) -> Option<S>
+        ensures { result ≡ self.store }
     {
-        self.sink_refused
+        self.store
     }
 }
-
-/// No run of a well-typed program is stuck.
-pub fn never_stuck()
-    ensures { (p : Program) (budget : ℕ) → IsWellTyped p → (run p budget).outcome ≢ Stuck }
-{}

@@ -10,7 +10,7 @@ mod programs;
 use crate::programs::{adds, calls, passes};
 use core_tree::{OutOfMemory, Program};
 use heap_arena::CopyStore;
-use machine_frames::{Machine, RunStop};
+use interpreter::{Machine, RunStop};
 use pb_io::HostSink;
 use std::alloc::Global;
 use std::env;

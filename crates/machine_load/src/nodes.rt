@@ -23,10 +23,7 @@ impl Nodes {
 
     /// A text of one character.
     pub fn character(self, c: char) -> Result<Expr, OutOfMemory> {
-        Ok(Expr::Text(Text::new(
-            self.alloc,
-            Vec::from_array(self.alloc, [c])?,
-        )?))
+        Ok(Expr::Text(Text::new(self.alloc, Vec::from_array(self.alloc, [c])?)?))
     }
 
     /// A call of the static method with this number and one argument.
@@ -59,10 +56,7 @@ impl Nodes {
         let mut body = Items::new(self.alloc);
         body.push(work)?;
         body.push(self.assign(local, next)?)?;
-        Ok(Stmt::While(
-            self.boxed(test)?,
-            self.boxed(Stmt::Block(body))?,
-        ))
+        Ok(Stmt::While(self.boxed(test)?, self.boxed(Stmt::Block(body))?))
     }
 
     /// A static method with a parameter of this type, a result of this type, and a body.

@@ -6,13 +6,13 @@ use Rattle.std.specs.Option.{option_map, option_and_then}
 use Rattle.java_tokens.specs.declared.token.TokenKind.{TokenKind}
 use Rattle.java_tokens.specs.declared.token.TokenKind.TheVariants.{Op, End}
 use Rattle.java_tokens.specs.declared.token.Operator.TheVariants as operator
-use Rattle.interpreter.specs.declared.program.BinOp.{BinOp}
-use Rattle.interpreter.specs.declared.program.BinOp.TheVariants.{Add, Sub}
-use Rattle.interpreter.specs.declared.program.Expr.{Expr}
-use Rattle.interpreter.specs.declared.program.Expr.TheVariants as expr
-use Rattle.interpreter.specs.declared.program.Stmt.{Stmt}
-use Rattle.interpreter.specs.declared.program.Stmt.TheVariants as stmt
-use Rattle.interpreter.specs.declared.program.Program.{Program}
+use Rattle.small_interpreter.specs.declared.program.BinOp.{BinOp}
+use Rattle.small_interpreter.specs.declared.program.BinOp.TheVariants.{Add, Sub}
+use Rattle.small_interpreter.specs.declared.program.Expr.{Expr}
+use Rattle.small_interpreter.specs.declared.program.Expr.TheVariants as expr
+use Rattle.small_interpreter.specs.declared.program.Stmt.{Stmt}
+use Rattle.small_interpreter.specs.declared.program.Stmt.TheVariants as stmt
+use Rattle.small_interpreter.specs.declared.program.Program.{Program}
 use Rattle.planb_run.specs.Syntax.{Operand, number, name, Term, Sum, Statement, declare, print as print_statement, Source, operand_kind, sign_kind, terms_before, sum_before, statement_before, body_before, source_kinds}
 use Rattle.planb_run.specs.Resolution.{is_same, operand_expr, terms_expr, sum_expr, may_declare, in_front, body_program, program_of}
 use Rattle.planb_run.specs.Reading.{read, go_on, ◌>>◌, given, finish, next_sign, next_is, is_operator, expect, identifier, Resolved, resolved, operand, terms, sum, declared, declaration, print, statement, statements, body, heading, source}

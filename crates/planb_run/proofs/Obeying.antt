@@ -8,8 +8,8 @@ use Rattle.java_tokens.specs.declared.error.TokenError.TheVariants.{BadUtf8, Bad
 use Rattle.java_tokens.specs.Tokens.{AreTokens}
 use Rattle.java_tokens.specs.Faults.{HasFault}
 use Rattle.java_tokens.proofs.OneReading.{one_list, one_fault, no_list_with_fault}
-use Rattle.interpreter.specs.declared.program.Program.{Program}
-use Rattle.interpreter.specs.Run.{run}
+use Rattle.small_interpreter.specs.declared.program.Program.{Program}
+use Rattle.small_interpreter.specs.Run.{run}
 use Rattle.planb_run.specs.declared.ending.Stop.{Stop}
 use Rattle.planb_run.specs.declared.ending.Stop.TheVariants as stop
 use Rattle.planb_run.specs.declared.ending.SourceRefusal.TheVariants.{TooLong, Lexical, Syntax}

@@ -2,7 +2,7 @@
 use Rattle.std.proofs.Common.{◌≡◌, List, [], None, sym, ◌∙◌, ap}
 use Rattle.std.specs.Option.{option_map}
 use Rattle.java_tokens.specs.declared.token.TokenKind.{TokenKind}
-use Rattle.interpreter.specs.declared.program.Program.{Program}
+use Rattle.small_interpreter.specs.declared.program.Program.{Program}
 use Rattle.planb_run.specs.Accepted.{IsProgramOf}
 use Rattle.planb_run.specs.Reading.{read, source}
 use Rattle.planb_run.proofs.Complete.{source_it}

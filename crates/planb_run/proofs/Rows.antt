@@ -1,8 +1,8 @@
 -- The definitions at a few sources.
 use Rattle.std.proofs.Common.{◌≡◌, List, [], ◌∷◌, pos, Some, None, refl, codes}
-use Rattle.interpreter.specs.declared.program.BinOp.TheVariants.{Sub}
-use Rattle.interpreter.specs.declared.program.Expr.TheVariants.{Int, Local, Binary}
-use Rattle.interpreter.specs.declared.program.Stmt.TheVariants.{Declare, Print}
+use Rattle.small_interpreter.specs.declared.program.BinOp.TheVariants.{Sub}
+use Rattle.small_interpreter.specs.declared.program.Expr.TheVariants.{Int, Local, Binary}
+use Rattle.small_interpreter.specs.declared.program.Stmt.TheVariants.{Declare, Print}
 use Rattle.planb_run.specs.Syntax.{Operand, number, name, Sum, Statement, declare, print, Source}
 use Rattle.planb_run.specs.Resolution.{program_of}
 

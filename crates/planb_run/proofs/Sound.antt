@@ -5,13 +5,13 @@ use Rattle.java_tokens.specs.declared.token.TokenKind.{TokenKind}
 use Rattle.java_tokens.specs.declared.token.TokenKind.TheVariants.{Ident, Number, Word, Op, End}
 use Rattle.java_tokens.specs.declared.token.Keyword.TheVariants as keyword
 use Rattle.java_tokens.specs.declared.token.Operator.TheVariants as operator
-use Rattle.interpreter.specs.declared.program.BinOp.{BinOp}
-use Rattle.interpreter.specs.declared.program.BinOp.TheVariants.{Add, Sub}
-use Rattle.interpreter.specs.declared.program.Expr.{Expr}
-use Rattle.interpreter.specs.declared.program.Expr.TheVariants as expr
-use Rattle.interpreter.specs.declared.program.Stmt.{Stmt}
-use Rattle.interpreter.specs.declared.program.Stmt.TheVariants as stmt
-use Rattle.interpreter.specs.declared.program.Program.{Program}
+use Rattle.small_interpreter.specs.declared.program.BinOp.{BinOp}
+use Rattle.small_interpreter.specs.declared.program.BinOp.TheVariants.{Add, Sub}
+use Rattle.small_interpreter.specs.declared.program.Expr.{Expr}
+use Rattle.small_interpreter.specs.declared.program.Expr.TheVariants as expr
+use Rattle.small_interpreter.specs.declared.program.Stmt.{Stmt}
+use Rattle.small_interpreter.specs.declared.program.Stmt.TheVariants as stmt
+use Rattle.small_interpreter.specs.declared.program.Program.{Program}
 use Rattle.planb_run.specs.Syntax.{Operand, number, name, Term, Sum, Statement, declare, print as print_statement, operand_kind, sign_kind, terms_before, sum_before, statement_before, body_before}
 use Rattle.planb_run.specs.Resolution.{operand_expr, terms_expr, sum_expr, may_declare, in_front, body_program}
 use Rattle.planb_run.specs.Accepted.{IsProgramOf}

@@ -3,10 +3,10 @@ use Rattle.std.proofs.Common.{◌≡◌, ◌≢◌, ℕ, zero, suc, ◌+◌, ◌
 use Rattle.std.specs.Option.{option_map}
 use Rattle.java_tokens.specs.declared.token.TokenKind.{TokenKind}
 use Rattle.java_tokens.specs.declared.token.Operator.TheVariants as operator
-use Rattle.interpreter.specs.declared.program.Expr.{Expr}
-use Rattle.interpreter.specs.declared.program.Expr.TheVariants as expr
-use Rattle.interpreter.specs.declared.program.Stmt.{Stmt}
-use Rattle.interpreter.specs.declared.program.Stmt.TheVariants as stmt
+use Rattle.small_interpreter.specs.declared.program.Expr.{Expr}
+use Rattle.small_interpreter.specs.declared.program.Expr.TheVariants as expr
+use Rattle.small_interpreter.specs.declared.program.Stmt.{Stmt}
+use Rattle.small_interpreter.specs.declared.program.Stmt.TheVariants as stmt
 use Rattle.planb_run.specs.Syntax.{Statement, declare, print}
 use Rattle.planb_run.specs.Resolution.{may_declare, sum_expr}
 use Rattle.planb_run.specs.Reading.{read, go_on, ◌>>=◌, behind, next_is, is_operator, next_sign, at_sign, operand, terms, Resolved, resolved, expect, declared, statement, statements, heading}

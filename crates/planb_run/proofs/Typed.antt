@@ -5,15 +5,15 @@ use Rattle.std.proofs.lemmas.List.Quantifiers.{position-Some}
 use Rattle.std.specs.List.{list_all}
 use Rattle.std.specs.Option.{option_map, option_and_then}
 use Rattle.java_tokens.specs.declared.token.TokenKind.{TokenKind}
-use Rattle.interpreter.specs.declared.program.BinOp.{BinOp}
-use Rattle.interpreter.specs.declared.program.Expr.{Expr}
-use Rattle.interpreter.specs.declared.program.Expr.TheVariants as expr
-use Rattle.interpreter.specs.declared.program.Expr.TheVariants.{rolls-Int, rolls-Local, rolls-Binary}
-use Rattle.interpreter.specs.declared.program.Expr.TheOpen.{Expr-F}
-use Rattle.interpreter.specs.declared.program.Expr.TheFolds.{fold-roll-Expr}
-use Rattle.interpreter.specs.declared.program.Stmt.TheVariants as stmt
-use Rattle.interpreter.specs.declared.program.Program.{Program}
-use Rattle.interpreter.specs.WellTyped.{typed_node, is_typed_expr, is_typed_stmt, IsWellTyped}
+use Rattle.small_interpreter.specs.declared.program.BinOp.{BinOp}
+use Rattle.small_interpreter.specs.declared.program.Expr.{Expr}
+use Rattle.small_interpreter.specs.declared.program.Expr.TheVariants as expr
+use Rattle.small_interpreter.specs.declared.program.Expr.TheVariants.{rolls-Int, rolls-Local, rolls-Binary}
+use Rattle.small_interpreter.specs.declared.program.Expr.TheOpen.{Expr-F}
+use Rattle.small_interpreter.specs.declared.program.Expr.TheFolds.{fold-roll-Expr}
+use Rattle.small_interpreter.specs.declared.program.Stmt.TheVariants as stmt
+use Rattle.small_interpreter.specs.declared.program.Program.{Program}
+use Rattle.small_interpreter.specs.WellTyped.{typed_node, is_typed_expr, is_typed_stmt, IsWellTyped}
 use Rattle.planb_run.specs.Syntax.{Operand, number, name, Term, Sum, Statement, declare, print}
 use Rattle.planb_run.specs.Resolution.{is_same, operand_expr, terms_expr, sum_expr, may_declare, in_front, body_program}
 use Rattle.planb_run.specs.Accepted.{IsProgramOf}

@@ -3,7 +3,7 @@ use Rattle.std.specs.Prelude.{◌≡◌, ℕ, ◌≤◌, List, ◌∷◌, ◌++�
 use Rattle.java_tokens.specs.declared.token.Token.{Token}
 use Rattle.java_tokens.specs.declared.token.TokenKind.{TokenKind}
 use Rattle.java_tokens.specs.Tokens.{AreTokens}
-use Rattle.interpreter.specs.declared.program.Program.{Program}
+use Rattle.small_interpreter.specs.declared.program.Program.{Program}
 use Rattle.planb_run.specs.Syntax.{Source, source_kinds}
 use Rattle.planb_run.specs.Resolution.{program_of}
 

@@ -10,10 +10,10 @@ use Rattle.java_tokens.specs.declared.error.TokenError.{TokenError}
 use Rattle.java_tokens.specs.declared.error.TokenError.TheVariants.{BadUtf8, BadChar, BadNumber, Unclosed}
 use Rattle.java_tokens.specs.Tokens.{AreTokens}
 use Rattle.java_tokens.specs.Faults.{HasFault}
-use Rattle.interpreter.specs.declared.program.Program.{Program}
-use Rattle.interpreter.specs.declared.outcome.Outcome.TheVariants.{Normal, Spent}
-use Rattle.interpreter.specs.World.{Answer}
-use Rattle.interpreter.specs.Run.{run}
+use Rattle.small_interpreter.specs.declared.program.Program.{Program}
+use Rattle.small_interpreter.specs.declared.outcome.Outcome.TheVariants.{Normal, Spent}
+use Rattle.small_interpreter.specs.World.{Answer}
+use Rattle.small_interpreter.specs.Run.{run}
 use Rattle.planb_run.specs.declared.ending.Ending.{Ending}
 use Rattle.planb_run.specs.declared.ending.Stop.{Stop}
 use Rattle.planb_run.specs.declared.ending.Stop.TheVariants as stop

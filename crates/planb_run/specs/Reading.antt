@@ -11,13 +11,13 @@ use Rattle.java_tokens.specs.declared.token.Operator.TheVariants as operator
 use Rattle.java_tokens.specs.contracts.token.Keyword.{the_type as keywords}
 use Rattle.java_tokens.specs.contracts.token.Operator.{the_type as operators}
 use denote.Enum.Bare.{sameb}
-use Rattle.interpreter.specs.declared.program.BinOp.{BinOp}
-use Rattle.interpreter.specs.declared.program.BinOp.TheVariants.{Add, Sub}
-use Rattle.interpreter.specs.declared.program.Expr.{Expr}
-use Rattle.interpreter.specs.declared.program.Expr.TheVariants as expr
-use Rattle.interpreter.specs.declared.program.Stmt.{Stmt}
-use Rattle.interpreter.specs.declared.program.Stmt.TheVariants as stmt
-use Rattle.interpreter.specs.declared.program.Program.{Program}
+use Rattle.small_interpreter.specs.declared.program.BinOp.{BinOp}
+use Rattle.small_interpreter.specs.declared.program.BinOp.TheVariants.{Add, Sub}
+use Rattle.small_interpreter.specs.declared.program.Expr.{Expr}
+use Rattle.small_interpreter.specs.declared.program.Expr.TheVariants as expr
+use Rattle.small_interpreter.specs.declared.program.Stmt.{Stmt}
+use Rattle.small_interpreter.specs.declared.program.Stmt.TheVariants as stmt
+use Rattle.small_interpreter.specs.declared.program.Program.{Program}
 use Rattle.planb_run.specs.Syntax.{Operand, number, name}
 use Rattle.planb_run.specs.Resolution.{is_same, operand_expr, may_declare}
 

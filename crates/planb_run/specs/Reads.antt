@@ -1,7 +1,7 @@
 -- What a function of the parser ensures: the outcome of its reading function, unless memory runs out.
 use Rattle.std.specs.Prelude.{◌≡◌, ℕ, List, Option, None, Result, Ok, Err}
 use Rattle.java_tokens.specs.declared.token.TokenKind.{TokenKind}
-use Rattle.interpreter.specs.declared.program.Stmt.{Stmt}
+use Rattle.small_interpreter.specs.declared.program.Stmt.{Stmt}
 use Rattle.planb_run.specs.declared.parse.error.ParseError.{ParseError}
 use Rattle.planb_run.specs.declared.parse.error.ParseError.TheVariants.{Syntax, OutOfMemory}
 use Rattle.planb_run.specs.declared.parse.error.ParseFault.{ParseFault}

@@ -4,11 +4,11 @@ use Rattle.std.specs.Prelude.{ℕ, pos, Bool, not, ◌||◌, nat_lt, nat_le, nat
 use Rattle.std.specs.Cmp.Lexicographic.{pointwise}
 use Rattle.std.specs.List.{list_any}
 use Rattle.std.specs.Option.{option_map, option_and_then}
-use Rattle.interpreter.specs.declared.program.Expr.{Expr}
-use Rattle.interpreter.specs.declared.program.Expr.TheVariants as expr
-use Rattle.interpreter.specs.declared.program.Stmt.{Stmt}
-use Rattle.interpreter.specs.declared.program.Stmt.TheVariants as stmt
-use Rattle.interpreter.specs.declared.program.Program.{Program}
+use Rattle.small_interpreter.specs.declared.program.Expr.{Expr}
+use Rattle.small_interpreter.specs.declared.program.Expr.TheVariants as expr
+use Rattle.small_interpreter.specs.declared.program.Stmt.{Stmt}
+use Rattle.small_interpreter.specs.declared.program.Stmt.TheVariants as stmt
+use Rattle.small_interpreter.specs.declared.program.Program.{Program}
 use Rattle.planb_run.specs.Syntax.{Operand, number, name, Term, Sum, Statement, declare, print, Source}
 
 -- two names are the same

@@ -3,7 +3,7 @@ use Rattle.std.specs.Prelude.{ℕ, List}
 use Rattle.pb_io.specs.Faults.{Rose}
 use Rattle.pb_io.specs.Sink.{SinkState}
 use Rattle.pb_io.specs.Files.{FilesState}
-use Rattle.interpreter.specs.declared.program.Program.{Program}
+use Rattle.small_interpreter.specs.declared.program.Program.{Program}
 use Rattle.planb_run.specs.declared.ending.Stop.{Stop}
 use Rattle.planb_run.specs.declared.ending.Stop.TheVariants as stop
 use Rattle.planb_run.specs.declared.ending.SourceRefusal.TheVariants.{TooLong, Lexical, Syntax}

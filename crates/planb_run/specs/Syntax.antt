@@ -4,8 +4,8 @@ use Rattle.java_tokens.specs.declared.token.TokenKind.{TokenKind}
 use Rattle.java_tokens.specs.declared.token.TokenKind.TheVariants.{Ident, Number, Word, Op, End}
 use Rattle.java_tokens.specs.declared.token.Keyword.TheVariants as keyword
 use Rattle.java_tokens.specs.declared.token.Operator.TheVariants as operator
-use Rattle.interpreter.specs.declared.program.BinOp.{BinOp}
-use Rattle.interpreter.specs.declared.program.BinOp.TheVariants.{Add, Sub}
+use Rattle.small_interpreter.specs.declared.program.BinOp.{BinOp}
+use Rattle.small_interpreter.specs.declared.program.BinOp.TheVariants.{Add, Sub}
 
 -- Operand = Number | Ident
 pub data Operand : Type 0 where

@@ -1,9 +1,9 @@
-ghost use Rattle.interpreter.specs.WellTyped.{IsWellTyped};
+ghost use Rattle.small_interpreter.specs.WellTyped.{IsWellTyped};
 ghost use Rattle.planb_run.specs.Stages.{Executes};
 
 use crate::Stop;
-use interpreter::{Machine, Program, RunStop};
 use pb_io::{OutsideFault, Sink};
+use small_interpreter::{Machine, Program, RunStop};
 use std::alloc::Global;
 
 /// Why a run stopped, and how many steps it took.

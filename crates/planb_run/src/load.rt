@@ -1,13 +1,13 @@
 ghost use Rattle.std.specs.Prelude.{◌≡◌, IfOk, IfErr};
-ghost use Rattle.interpreter.specs.WellTyped.{IsWellTyped};
+ghost use Rattle.small_interpreter.specs.WellTyped.{IsWellTyped};
 ghost use Rattle.planb_run.specs.Headline.{StartsAtMost, HasProgram};
 ghost use Rattle.planb_run.specs.Stages.{RefusesFile};
 
 use crate::parse::{ParseFault, parse};
 use crate::{SourceRefusal, Stop, TokenKindError};
-use interpreter::Program;
 use java_tokens::{TokenError, tokens};
 use pb_io::{Files, ReadError, read_file};
+use small_interpreter::Program;
 use std::alloc::Global;
 
 // How many bytes a source may have.

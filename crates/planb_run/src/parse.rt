@@ -11,8 +11,8 @@ mod statement;
 mod sum;
 
 ghost use Rattle.std.specs.Prelude.{◌≡◌, ℕ, ◌<◌, ◌^◌, length, IfOk, IfErr, IsErrOf};
-ghost use Rattle.interpreter.specs.declared.program.Program.{Program};
-ghost use Rattle.interpreter.specs.WellTyped.{IsWellTyped};
+ghost use Rattle.small_interpreter.specs.declared.program.Program.{Program};
+ghost use Rattle.small_interpreter.specs.WellTyped.{IsWellTyped};
 ghost use Rattle.planb_run.specs.Accepted.{kinds_of, IsProgramOf, HasNoProgram, IsPlaceAmong};
 ghost use Rattle.planb_run.specs.Reading as spec;
 ghost use Rattle.planb_run.specs.Reads.{Reads, Refuses, IsFaultAmong};
@@ -22,8 +22,8 @@ use crate::parse::locals::Locals;
 use crate::parse::statement::read_statement;
 use error::ParseError;
 pub(crate) use error::ParseFault;
-use interpreter::Program;
 use java_tokens::{Keyword, Name, Operator, Token};
+use small_interpreter::Program;
 use sqlite_items::Items;
 use std::alloc::Global;
 

@@ -6,8 +6,8 @@ ghost use Rattle.planb_run.specs.Reading as spec;
 ghost use Rattle.planb_run.specs.Reads.{Reads, Refuses};
 
 use crate::parse::error::ParseError;
-use interpreter::BinOp;
 use java_tokens::{Keyword, Name, Operator, Token, TokenKind};
+use small_interpreter::BinOp;
 use std::marker::Model;
 
 /// The tokens from a place on. Contracts see their kinds.

@@ -7,8 +7,8 @@ use crate::parse::cursor::{Cursor, is_spelled};
 use crate::parse::error::ParseError;
 use crate::parse::locals::Locals;
 use crate::parse::sum::read_sum;
-use interpreter::Stmt;
 use java_tokens::{Keyword, Name, Operator};
+use small_interpreter::Stmt;
 use std::alloc::Global;
 
 /// Reads a declaration or a print.

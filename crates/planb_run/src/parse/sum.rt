@@ -1,5 +1,5 @@
 ghost use Rattle.std.specs.Prelude.{◌≡◌, IfOk};
-ghost use Rattle.interpreter.specs.declared.program.Expr.TheVariants as expr;
+ghost use Rattle.small_interpreter.specs.declared.program.Expr.TheVariants as expr;
 ghost use Rattle.std.specs.Option.{option_and_then};
 ghost use Rattle.planb_run.specs.Resolution.{operand_expr};
 ghost use Rattle.planb_run.specs.Reading as spec;
@@ -8,8 +8,8 @@ ghost use Rattle.planb_run.specs.Reads.{Reads};
 use crate::parse::cursor::Cursor;
 use crate::parse::error::ParseError;
 use crate::parse::locals::Locals;
-use interpreter::{BinOp, Expr};
 use java_tokens::TokenKind;
+use small_interpreter::{BinOp, Expr};
 use sqlite_items::Boxed;
 use std::alloc::{AllocError, Global};
 

@@ -1,5 +1,7 @@
-use Rattle.interpreter.proofs.Typed.{not_reached}
+use Rattle.std.proofs.Common.{[], map}
+use Rattle.interpreter.specs.Machine.{text_of}
+use Rattle.interpreter.proofs.Whole.{absurd_option}
 use Rattle.interpreter.proofs.machine.Machine.run.Goals as goal
 
 pub unreachable-requires : goal.unreachable-requires
-unreachable-requires g c = not_reached _ _ _ c.requires.well_typed c.in-Ok.ensures.ends.outcome_is c.in-Value.is
+unreachable-requires g c = absurd_option c.attempt.new.self.store _ (rw c.in-None.is at c.attempt.ensures) (λ s run. c.never_stuck.ensures.never_stuck c.args.program.now (map text_of c.args.args.now) c.args.steps [] c.requires.well_typed run.ends)

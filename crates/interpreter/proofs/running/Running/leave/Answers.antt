@@ -1,0 +1,6 @@
+use Rattle.std.proofs.Common.{false, refl}
+use Rattle.interpreter.proofs.Moves.{stays}
+use Rattle.interpreter.proofs.running.Running.leave.Goals as goal
+
+pub returns-clause-ok : goal.returns-clause-ok
+returns-clause-ok g c = stays false _ _ _ _ tt refl refl refl refl (λ k f J. rw (c.outcome.ensures, c.saturating_sub-self.ensures) refl)

@@ -1,0 +1,122 @@
+//! Fields and elements as places.
+
+ghost use Rattle.std.specs.Prelude.{IfOk, OnErr};
+ghost use Rattle.evaluation.specs.Objects.{at_index, with_element, with_field, within_array};
+ghost use Rattle.interpreter.specs.Frames.{point, at_place, Goes, Leaves, FailsIn, HasFields};
+
+use crate::frame::{Focus, PlaceUse};
+use crate::running::Running;
+use core_tree::{BuiltIn, OutOfMemory};
+use evaluation::{Outcome, Place};
+use heap_arena::{Cell, Store};
+use object_cells::elements_count;
+
+impl<'p, S: Store + Drop> Running<'p, S> {
+    /// Goes on with a place.
+    pub fn at_place(&mut self, place: Place, then: PlaceUse<'p>) -> Result<Focus<'p>, OutOfMemory>
+        requires fields { HasFields (point S.now S.marks S.field_types self.old) }
+        ensures ok { IfOk result (Goes S.now S.marks S.field_types
+            (λ part. at_place self.old.program.now part then.entry place)
+            self.old self.new) }
+        ensures light { IfOk result (Leaves S.now S.marks S.field_types 0 self.old self.new) }
+        ensures err { OnErr result (FailsIn S.now S.marks S.field_types self.old self.new) }
+    {
+        match then {
+            PlaceUse::Read => self.read_place(place),
+            PlaceUse::Write(v) => self.write_place(place, v),
+            PlaceUse::Update(op, operand) => self.update_place(op, operand, place),
+        }
+    }
+
+    /// Goes on with the place of a field; null throws (JLS 15.11.1).
+    pub fn with_field(
+        &mut self,
+        object: Cell<u32>,
+        at: u32,
+        then: PlaceUse<'p>,
+    ) -> Result<Focus<'p>, OutOfMemory>
+        requires fields { HasFields (point S.now S.marks S.field_types self.old) }
+        ensures ok { IfOk result (Goes S.now S.marks S.field_types
+            (λ part. with_field self.old.program.now object at (at_place self.old.program.now part then.entry))
+            self.old self.new) }
+        ensures light { IfOk result (Leaves S.now S.marks S.field_types 0 self.old self.new) }
+        ensures err { OnErr result (FailsIn S.now S.marks S.field_types self.old self.new) }
+    {
+        match object {
+            Cell::Null => self.trap(BuiltIn::NullPointerException),
+            Cell::Ref(o) => self.at_place(Place::Cell(o, at), then),
+            Cell::Int(_) | Cell::Bool(_) | Cell::Text(_) => self.end(Outcome::Stuck),
+        }
+    }
+
+    /// Goes on with the place of an element; null throws before the index is looked at (JLS 15.10.4).
+    pub fn with_element(
+        &mut self,
+        array: Cell<u32>,
+        index: Cell<u32>,
+        then: PlaceUse<'p>,
+    ) -> Result<Focus<'p>, OutOfMemory>
+        requires fields { HasFields (point S.now S.marks S.field_types self.old) }
+        ensures ok { IfOk result (Goes S.now S.marks S.field_types
+            (λ part. with_element self.old.program.now array index (at_place self.old.program.now part then.entry))
+            self.old self.new) }
+        ensures light { IfOk result (Leaves S.now S.marks S.field_types 0 self.old self.new) }
+        ensures err { OnErr result (FailsIn S.now S.marks S.field_types self.old self.new) }
+    {
+        match array {
+            Cell::Null => self.trap(BuiltIn::NullPointerException),
+            Cell::Ref(o) => self.at_index(o, index, then),
+            Cell::Int(_) | Cell::Bool(_) | Cell::Text(_) => self.end(Outcome::Stuck),
+        }
+    }
+
+    // Goes on with the place of an element of the array at a position.
+    fn at_index(
+        &mut self,
+        o: u32,
+        index: Cell<u32>,
+        then: PlaceUse<'p>,
+    ) -> Result<Focus<'p>, OutOfMemory>
+        requires fields { HasFields (point S.now S.marks S.field_types self.old) }
+        ensures ok { IfOk result (Goes S.now S.marks S.field_types
+            (λ part. at_index self.old.program.now o index (at_place self.old.program.now part then.entry))
+            self.old self.new) }
+        ensures light { IfOk result (Leaves S.now S.marks S.field_types 0 self.old self.new) }
+        ensures err { OnErr result (FailsIn S.now S.marks S.field_types self.old self.new) }
+    {
+        match index {
+            Cell::Int(index) => match elements_count(&self.store, o) {
+                Some(count) => self.within_array(o, index, count, then),
+                None => self.end(Outcome::Stuck),
+            },
+            Cell::Bool(_) | Cell::Null | Cell::Ref(_) | Cell::Text(_) => self.end(Outcome::Stuck),
+        }
+    }
+
+    // Goes on with the place of an element of the array with so many elements.
+    fn within_array(
+        &mut self,
+        o: u32,
+        index: i32,
+        count: u32,
+        then: PlaceUse<'p>,
+    ) -> Result<Focus<'p>, OutOfMemory>
+        requires fields { HasFields (point S.now S.marks S.field_types self.old) }
+        ensures ok { IfOk result (Goes S.now S.marks S.field_types
+            (λ part. within_array self.old.program.now o index (at_place self.old.program.now part then.entry) count)
+            self.old self.new) }
+        ensures light { IfOk result (Leaves S.now S.marks S.field_types 0 self.old self.new) }
+        ensures err { OnErr result (FailsIn S.now S.marks S.field_types self.old self.new) }
+    {
+        match u32::try_from(index) {
+            Ok(at) => {
+                if at < count {
+                    self.at_place(Place::Cell(o, at), then)
+                } else {
+                    self.trap(BuiltIn::ArrayIndexOutOfBoundsException)
+                }
+            }
+            Err(_) => self.trap(BuiltIn::ArrayIndexOutOfBoundsException),
+        }
+    }
+}

@@ -1,9 +1,0 @@
-pub mod Opens
-pub mod Moves
-pub mod Runs
-pub mod Steps
-pub mod Leaves
-pub mod Sums
-pub mod Filling
-pub mod Whole
-pub mod Starts

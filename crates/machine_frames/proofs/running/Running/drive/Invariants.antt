@@ -1,9 +1,0 @@
-use Rattle.machine_frames.specs.Frames.{point}
-use Rattle.machine_frames.specs.Points.{Leads, work}
-use Rattle.machine_frames.proofs.running.Running.drive.Given as goal
-
-abbrev pub invariant-loop-y : goal.invariant-loop-y
-invariant-loop-y g l = Leads (point g.S.Store.now g.S.Store.marks g.S.Store.field_types l.initial.self) l.initial.x (g.O.Sink.state l.initial.sink) (point g.S.Store.now g.S.Store.marks g.S.Store.field_types l.self) l.x (g.O.Sink.state l.sink)
-
-abbrev pub decreases-loop-y : goal.decreases-loop-y
-decreases-loop-y g l = work (point g.S.Store.now g.S.Store.marks g.S.Store.field_types l.self) l.x

@@ -1,0 +1,97 @@
+//! Runs a program and compares what it prints and how it ends.
+
+use crate::builder::Made;
+use core_tree::{OutOfMemory, Program, Text, What};
+use heap_arena::CopyStore;
+use machine_frames::{Machine, RunStop};
+use pb_io::MemSink;
+use std::alloc::Global;
+use std::process::Abort;
+use std::test::Fail;
+
+/// More steps than any of the programs takes that ends.
+pub const AMPLE: u64 = 10_000_000;
+
+/// A run: what it is given, and what it is to print, with a last line that says how it ends unless it comes to its end.
+#[derive(Clone, Copy)]
+pub struct Row {
+    pub args: &'static [&'static str],
+    pub steps: u64,
+    pub prints: &'static str,
+}
+
+/// A run without arguments and with ample steps.
+pub fn plain(prints: &'static str) -> Row {
+    Row {
+        args: &[],
+        steps: AMPLE,
+        prints,
+    }
+}
+
+/// Runs the program as the row says, and sees that it prints what the row says.
+pub fn check(rt: &impl Abort, alloc: Global, program: Made<Program>, row: Row) -> Result<(), Fail> {
+    let program = program?;
+    let mut args = Vec::new(alloc);
+    for arg in row.args {
+        args.push(String::from_str(alloc, arg)?)?;
+    }
+    let store = CopyStore::new(alloc, &program)?;
+    let mut sink = MemSink::new(usize::MAX, Vec::new(alloc), Vec::new(alloc));
+    let mut machine = Machine::new(alloc, store);
+    let stop = machine.attempt(&program, &args, row.steps, &mut sink);
+    let end = end_line(alloc, &program, stop)?;
+    let printed = std::str::from_utf8(sink.written()).unwrap_or("no text");
+    let printed = format!(in alloc; "{printed}{end}")?;
+    assert_eq!(rt; printed.as_str(), row.prints);
+    assert!(rt; machine.steps_taken() <= row.steps);
+    Ok(())
+}
+
+// The line that says how a run ended; none where it came to its end.
+fn end_line(
+    alloc: Global,
+    program: &Program,
+    stop: Option<RunStop>,
+) -> Result<String, OutOfMemory> {
+    let line = match stop {
+        Some(RunStop::Done) => "",
+        Some(RunStop::Uncaught { class, message }) => {
+            return uncaught_line(alloc, program, class, message);
+        }
+        Some(RunStop::StepsSpent) => "steps spent\n",
+        Some(RunStop::Full(What::Cells)) => "full cells\n",
+        Some(RunStop::Full(What::Text)) => "full text\n",
+        Some(RunStop::OutOfMemory) => "out of memory\n",
+        Some(RunStop::WriteFault) => "write fault\n",
+        None => "stuck\n",
+    };
+    Ok(String::from_str(alloc, line)?)
+}
+
+// The line that tells an exception that nothing caught: its class, and its message where it has one.
+fn uncaught_line(
+    alloc: Global,
+    program: &Program,
+    class: u32,
+    message: Option<Text>,
+) -> Result<String, OutOfMemory> {
+    let mut line = String::from_str(alloc, "uncaught ")?;
+    if let Some(class) = program.classes.get(class as usize) {
+        push_text(&mut line, &class.name)?;
+    }
+    if let Some(message) = message {
+        line.push_str(": ")?;
+        push_text(&mut line, &message)?;
+    }
+    line.push('\n')?;
+    Ok(line)
+}
+
+// Appends the characters of a text.
+fn push_text(line: &mut String, text: &Text) -> Result<(), OutOfMemory> {
+    for character in text.characters() {
+        line.push(*character)?;
+    }
+    Ok(())
+}

@@ -1,0 +1,187 @@
+//! Classes, their members, and programs, which begin with the built-in classes.
+
+use crate::builder::{Builder, Made};
+use core_tree::{BuiltIn, Class, Expr, Field, Maker, Method, Parent, Program, Stmt, Ty};
+use sqlite_items::Items;
+
+/// The built-in classes below Object by number, each with its superclass.
+const THROWABLES: [(&str, BuiltIn); 17] = [
+    ("Throwable", BuiltIn::Object),
+    ("Exception", BuiltIn::Throwable),
+    ("RuntimeException", BuiltIn::Exception),
+    ("Error", BuiltIn::Throwable),
+    ("ArithmeticException", BuiltIn::RuntimeException),
+    ("NullPointerException", BuiltIn::RuntimeException),
+    ("NegativeArraySizeException", BuiltIn::RuntimeException),
+    ("FallbackError", BuiltIn::Error),
+    ("ClassCastException", BuiltIn::RuntimeException),
+    ("ArrayStoreException", BuiltIn::RuntimeException),
+    ("IndexOutOfBoundsException", BuiltIn::RuntimeException),
+    (
+        "ArrayIndexOutOfBoundsException",
+        BuiltIn::IndexOutOfBoundsException,
+    ),
+    ("IllegalArgumentException", BuiltIn::RuntimeException),
+    ("IllegalStateException", BuiltIn::RuntimeException),
+    ("UnsupportedOperationException", BuiltIn::RuntimeException),
+    ("StackOverflowError", BuiltIn::Error),
+    ("RequiresError", BuiltIn::Error),
+];
+
+impl Builder {
+    /// The built-in classes by number.
+    fn built_in_classes(self) -> Made<Items<Class>> {
+        let mut classes = Items::new(self.alloc);
+        classes.push(Class {
+            name: self.characters("Object")?,
+            parent: None,
+            fields: Items::new(self.alloc),
+            chosen: Items::new(self.alloc),
+        })?;
+        for (name, parent) in THROWABLES {
+            classes.push(self.class(name, parent.number(), [self.message_field()], &[])?)?;
+        }
+        Ok(classes)
+    }
+
+    /// The field of a Throwable.
+    pub fn message_field(self) -> Made<Field> {
+        self.field_named("#message", BuiltIn::Throwable.number(), self.text_type())
+    }
+
+    /// A field without an initialiser, which this class declares.
+    pub fn field_named(self, name: &str, owner: u32, ty: Made<Ty>) -> Made<Field> {
+        Ok(Field {
+            name: self.characters(name)?,
+            ty: ty?,
+            start: None,
+            owner,
+        })
+    }
+
+    /// A field with an initialiser.
+    pub fn field_with(
+        self,
+        name: &str,
+        owner: u32,
+        ty: Made<Ty>,
+        start: Made<Expr>,
+    ) -> Made<Field> {
+        Ok(Field {
+            name: self.characters(name)?,
+            ty: ty?,
+            start: Some(self.boxed(start)?),
+            owner,
+        })
+    }
+
+    /// A class, with its fields, the inherited ones first, and what each selector picks.
+    pub fn class<const N: usize>(
+        self,
+        name: &str,
+        parent: u32,
+        fields: [Made<Field>; N],
+        chosen: &[Option<u32>],
+    ) -> Made<Class> {
+        Ok(Class {
+            name: self.characters(name)?,
+            parent: Some(parent),
+            fields: self.list(fields)?,
+            chosen: Items::from_slice(self.alloc, chosen)?,
+        })
+    }
+
+    /// A static method, with its parameters, its result, its other locals and its body.
+    pub fn static_method<const P: usize, const L: usize, const N: usize>(
+        self,
+        name: &str,
+        owner: u32,
+        params: [Made<Ty>; P],
+        answer: Made<Ty>,
+        locals: [Made<Ty>; L],
+        body: [Made<Stmt>; N],
+    ) -> Made<Method> {
+        Ok(Method {
+            name: self.characters(name)?,
+            owner,
+            on_object: false,
+            params: self.list(params)?,
+            answer: answer?,
+            locals: self.list(locals)?,
+            body: self.list(body)?,
+        })
+    }
+
+    /// A method on an object.
+    pub fn object_method<const P: usize, const L: usize, const N: usize>(
+        self,
+        name: &str,
+        owner: u32,
+        params: [Made<Ty>; P],
+        answer: Made<Ty>,
+        locals: [Made<Ty>; L],
+        body: [Made<Stmt>; N],
+    ) -> Made<Method> {
+        let method = self.static_method(name, owner, params, answer, locals, body)?;
+        Ok(Method {
+            on_object: true,
+            ..method
+        })
+    }
+
+    /// The constructor of Object.
+    pub fn plain_parent(self) -> Made<Parent> {
+        Ok(Parent::Plain)
+    }
+
+    /// The constructor of a built-in Throwable, without a message.
+    pub fn parent_without_message(self) -> Made<Parent> {
+        Ok(Parent::Message(None))
+    }
+
+    /// The constructor of a built-in Throwable.
+    pub fn parent_with_message(self, message: Made<Expr>) -> Made<Parent> {
+        Ok(Parent::Message(Some(self.boxed(message)?)))
+    }
+
+    /// A constructor of a superclass of the file.
+    pub fn parent<const N: usize>(self, maker: u32, arguments: [Made<Expr>; N]) -> Made<Parent> {
+        Ok(Parent::Maker(maker, self.list(arguments)?))
+    }
+
+    /// A constructor, with its parameters, what the superclass runs, its other locals and its body.
+    pub fn maker<const P: usize, const L: usize, const N: usize>(
+        self,
+        owner: u32,
+        params: [Made<Ty>; P],
+        parent: Made<Parent>,
+        locals: [Made<Ty>; L],
+        body: [Made<Stmt>; N],
+    ) -> Made<Maker> {
+        Ok(Maker {
+            owner,
+            params: self.list(params)?,
+            parent: parent?,
+            locals: self.list(locals)?,
+            body: self.list(body)?,
+        })
+    }
+
+    /// A program with these classes behind the built-in ones.
+    pub fn program<const C: usize, const M: usize, const K: usize>(
+        self,
+        of_file: [Made<Class>; C],
+        methods: [Made<Method>; M],
+        makers: [Made<Maker>; K],
+        main: u32,
+    ) -> Made<Program> {
+        let mut classes = self.built_in_classes()?;
+        classes.append(self.list(of_file)?)?;
+        Ok(Program {
+            classes,
+            methods: self.list(methods)?,
+            makers: self.list(makers)?,
+            main,
+        })
+    }
+}

@@ -1,0 +1,90 @@
+//! Not by java: 65,536 calls may be live, that of main among them, and the call beyond throws in its caller.
+//! The source is java/25_depth.java.
+
+use crate::builder::{Builder, Made};
+use core_tree::{BinOp, BuiltIn, Class, Maker, Method, Program};
+
+const MAIN: u32 = 18;
+
+const DEEPEST: u32 = 0;
+
+const ENDLESS: u32 = 1;
+
+const RUN_MAIN: u32 = 2;
+
+const SELECT_GET_MESSAGE: u32 = 0;
+
+pub fn program(b: Builder) -> Made<Program> {
+    b.program(
+        [main_class(b)],
+        [deepest_method(b), endless_method(b), main_method(b)],
+        [main_maker(b)],
+        RUN_MAIN,
+    )
+}
+
+fn main_class(b: Builder) -> Made<Class> {
+    b.class("Main", BuiltIn::Object.number(), [], &[None])
+}
+
+// static int deepest(int depth). Local 1 is e.
+fn deepest_method(b: Builder) -> Made<Method> {
+    b.static_method(
+        "deepest",
+        MAIN,
+        [b.int_type()],
+        b.int_type(),
+        [b.class_type(BuiltIn::StackOverflowError.number())],
+        [b.try_catch(
+            b.block([b.answer(b.call_static(
+                DEEPEST,
+                [b.binary(BinOp::Add, b.local(0), b.int(1))],
+            ))]),
+            [b.catch(
+                BuiltIn::StackOverflowError.number(),
+                1,
+                b.block([b.answer(b.local(0))]),
+            )],
+        )],
+    )
+}
+
+// static void endless()
+fn endless_method(b: Builder) -> Made<Method> {
+    b.static_method(
+        "endless",
+        MAIN,
+        [],
+        b.no_type(),
+        [],
+        [b.eval(b.call_static(ENDLESS, []))],
+    )
+}
+
+// static void main(String[] args). Local 1 is e.
+fn main_method(b: Builder) -> Made<Method> {
+    b.static_method(
+        "main",
+        MAIN,
+        [b.array_type(b.text_type())],
+        b.no_type(),
+        [b.class_type(BuiltIn::StackOverflowError.number())],
+        [
+            b.print_line(b.call_static(DEEPEST, [b.int(2)])),
+            b.try_catch(
+                b.block([b.eval(b.call_static(ENDLESS, []))]),
+                [b.catch(
+                    BuiltIn::StackOverflowError.number(),
+                    1,
+                    b.block([b.print_line(b.call(b.local(1), SELECT_GET_MESSAGE, []))]),
+                )],
+            ),
+            b.eval(b.call_static(ENDLESS, [])),
+        ],
+    )
+}
+
+// Main()
+fn main_maker(b: Builder) -> Made<Maker> {
+    b.maker(MAIN, [], b.plain_parent(), [], [])
+}

@@ -1,0 +1,107 @@
+//! Division goes towards zero, a remainder has the sign of the dividend, and a zero divisor throws.
+//! The source is java/17_division.java.
+
+use crate::builder::{Builder, Made};
+use core_tree::{BinOp, BuiltIn, Class, Maker, Method, Program, UnOp};
+
+const MAIN: u32 = 18;
+
+const BOTH: u32 = 0;
+
+const REMAINDER: u32 = 1;
+
+const RUN_MAIN: u32 = 2;
+
+pub fn program(b: Builder) -> Made<Program> {
+    b.program(
+        [main_class(b)],
+        [both_method(b), remainder_method(b), main_method(b)],
+        [main_maker(b)],
+        RUN_MAIN,
+    )
+}
+
+fn main_class(b: Builder) -> Made<Class> {
+    b.class("Main", BuiltIn::Object.number(), [], &[None])
+}
+
+// static void both(int a, int b). Local 2 is e.
+fn both_method(b: Builder) -> Made<Method> {
+    b.static_method(
+        "both",
+        MAIN,
+        [b.int_type(), b.int_type()],
+        b.no_type(),
+        [b.class_type(BuiltIn::ArithmeticException.number())],
+        [b.try_catch(
+            b.block([
+                b.print(b.binary(BinOp::Div, b.local(0), b.local(1))),
+                b.print(b.text(" ")),
+                b.print_line(b.binary(BinOp::Rem, b.local(0), b.local(1))),
+            ]),
+            [b.catch(
+                BuiltIn::ArithmeticException.number(),
+                2,
+                b.block([b.print_line(b.text("zero"))]),
+            )],
+        )],
+    )
+}
+
+// static void remainder(int a, int b). Local 2 is e.
+fn remainder_method(b: Builder) -> Made<Method> {
+    b.static_method(
+        "remainder",
+        MAIN,
+        [b.int_type(), b.int_type()],
+        b.no_type(),
+        [b.class_type(BuiltIn::ArithmeticException.number())],
+        [b.try_catch(
+            b.block([b.print_line(b.binary(BinOp::Rem, b.local(0), b.local(1)))]),
+            [b.catch(
+                BuiltIn::ArithmeticException.number(),
+                2,
+                b.block([b.print_line(b.text("zero"))]),
+            )],
+        )],
+    )
+}
+
+// static void main(String[] args)
+fn main_method(b: Builder) -> Made<Method> {
+    b.static_method(
+        "main",
+        MAIN,
+        [b.array_type(b.text_type())],
+        b.no_type(),
+        [],
+        [
+            b.eval(b.call_static(BOTH, [b.int(7), b.int(2)])),
+            b.eval(b.call_static(BOTH, [b.unary(UnOp::Neg, b.int(7)), b.int(2)])),
+            b.eval(b.call_static(BOTH, [b.int(7), b.unary(UnOp::Neg, b.int(2))])),
+            b.eval(b.call_static(
+                BOTH,
+                [b.unary(UnOp::Neg, b.int(7)), b.unary(UnOp::Neg, b.int(2))],
+            )),
+            b.eval(b.call_static(
+                BOTH,
+                [
+                    b.unary(UnOp::Neg, b.int(i32::MIN)),
+                    b.unary(UnOp::Neg, b.int(1)),
+                ],
+            )),
+            b.eval(b.call_static(BOTH, [b.unary(UnOp::Neg, b.int(i32::MIN)), b.int(1)])),
+            b.eval(b.call_static(BOTH, [b.unary(UnOp::Neg, b.int(i32::MIN)), b.int(i32::MAX)])),
+            b.eval(b.call_static(BOTH, [b.int(i32::MAX), b.unary(UnOp::Neg, b.int(i32::MIN))])),
+            b.eval(b.call_static(BOTH, [b.int(0), b.unary(UnOp::Neg, b.int(5))])),
+            b.eval(b.call_static(BOTH, [b.int(5), b.int(0)])),
+            b.eval(b.call_static(REMAINDER, [b.unary(UnOp::Neg, b.int(i32::MIN)), b.int(0)])),
+            b.print_line(b.binary(BinOp::Div, b.int(1), b.int(0))),
+        ],
+    )
+}
+
+// Main()
+fn main_maker(b: Builder) -> Made<Maker> {
+    b.maker(MAIN, [], b.plain_parent(), [], [])
+}

@@ -9,43 +9,39 @@ use std::alloc::Global;
 use std::process::Abort;
 use std::test::Fail;
 
-/// More steps than any of the programs takes that ends.
+/// More steps than any of the programs takes that comes to an end.
 pub const AMPLE: u64 = 10_000_000;
 
-/// A run: what it is given, and what it is to print, with a last line that says how it ends unless it comes to its end.
-#[derive(Clone, Copy)]
-pub struct Row {
-    pub args: &'static [&'static str],
-    pub steps: u64,
-    pub prints: &'static str,
+/// Runs the program without arguments and with ample steps, and sees that it prints this, with a last line that says how the
+/// run ended unless it came to its end.
+pub fn check(
+    rt: &impl Abort,
+    alloc: Global,
+    program: Made<Program>,
+    prints: &str,
+) -> Result<(), Fail> {
+    check_run(rt, alloc, &program?, &[], AMPLE, prints)?;
+    Ok(())
 }
 
-/// A run without arguments and with ample steps.
-pub fn plain(prints: &'static str) -> Row {
-    Row {
-        args: &[],
-        steps: AMPLE,
-        prints,
-    }
-}
-
-/// Runs the program as the row says, and sees that it prints what the row says.
-pub fn check(rt: &impl Abort, alloc: Global, program: Made<Program>, row: Row) -> Result<(), Fail> {
-    let program = program?;
-    let mut args = Vec::new(alloc);
-    for arg in row.args {
-        args.push(String::from_str(alloc, arg)?)?;
-    }
-    let store = CopyStore::new(alloc, &program)?;
+/// The same with these arguments and so many steps. It answers how many steps the run took.
+pub fn check_run(
+    rt: &impl Abort,
+    alloc: Global,
+    program: &Program,
+    args: &[String],
+    steps: u64,
+    prints: &str,
+) -> Result<u64, Fail> {
+    let store = CopyStore::new(alloc, program)?;
     let mut sink = MemSink::new(usize::MAX, Vec::new(alloc), Vec::new(alloc));
     let mut machine = Machine::new(alloc, store);
-    let stop = machine.attempt(&program, &args, row.steps, &mut sink);
-    let end = end_line(alloc, &program, stop)?;
+    let stop = machine.attempt(program, args, steps, &mut sink);
+    let end = end_line(alloc, program, stop)?;
     let printed = std::str::from_utf8(sink.written()).unwrap_or("no text");
     let printed = format!(in alloc; "{printed}{end}")?;
-    assert_eq!(rt; printed.as_str(), row.prints);
-    assert!(rt; machine.steps_taken() <= row.steps);
-    Ok(())
+    assert_eq!(rt; printed.as_str(), prints);
+    Ok(machine.steps_taken())
 }
 
 // The line that says how a run ended; none where it came to its end.

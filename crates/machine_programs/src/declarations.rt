@@ -112,6 +112,17 @@ impl Builder {
         })
     }
 
+    /// A `main` without a result, whose one parameter is the array of the arguments.
+    pub fn main_method<const L: usize, const N: usize>(
+        self,
+        owner: u32,
+        locals: [Made<Ty>; L],
+        body: [Made<Stmt>; N],
+    ) -> Made<Method> {
+        let arguments = self.array_type(self.text_type());
+        self.static_method("main", owner, [arguments], self.no_type(), locals, body)
+    }
+
     /// A method on an object.
     pub fn object_method<const P: usize, const L: usize, const N: usize>(
         self,
@@ -165,6 +176,11 @@ impl Builder {
             locals: self.list(locals)?,
             body: self.list(body)?,
         })
+    }
+
+    /// The constructor of a class right below Object that declares none.
+    pub fn plain_maker(self, owner: u32) -> Made<Maker> {
+        self.maker(owner, [], self.plain_parent(), [], [])
     }
 
     /// A program with these classes behind the built-in ones.

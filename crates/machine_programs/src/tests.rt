@@ -1,108 +1,48 @@
-//! What the programs print, each row as Java says it, or as the limits of this machine do where Java's differ.
+//! What the programs print, each as Java says it, or as the limits of this machine do where Java's differ.
 
 use crate::builder::Builder;
-use crate::check::{Row, check, plain};
-use crate::programs;
+use crate::check::{AMPLE, check, check_run};
+use crate::programs::*;
+use std::alloc::{AllocError, Global};
 use std::test::Fail;
 
 #[test]
-fn values(rt: HostRuntime) -> Result<(), Fail> {
+fn ints(rt: HostRuntime) -> Result<(), Fail> {
     let alloc = rt.alloc();
     let b = Builder { alloc };
+    check(&rt, alloc, division::program(b), division::PRINTS)?;
+    check(&rt, alloc, shifts::program(b), shifts::PRINTS)?;
+    check(&rt, alloc, overflow::program(b), overflow::PRINTS)?;
     check(
         &rt,
         alloc,
-        programs::division::program(b),
-        plain(
-            "3 1\n-3 -1\n-3 1\n3 -1\n-2147483648 0\n-2147483648 0\n-1 -1\n0 2147483647\n0 0\nzero\nzero\nuncaught ArithmeticException\n",
-        ),
-    )?;
-    check(
-        &rt,
-        alloc,
-        programs::shifts::program(b),
-        plain(
-            "5 5 5\n10 2 2\n-10 -3 2147483645\n-2147483648 -1 1\n-5 -5 -5\n-10 -3 2147483645\n-2147483648 -1 1\n-2147483648 0 0\n2 0 0\n-2147483648 0 0\n0 -1 1\n2147483647 2147483647 2147483647\n-1073741824 1 1\n",
-        ),
-    )?;
-    check(
-        &rt,
-        alloc,
-        programs::overflow::program(b),
-        plain(
-            "-2147483648 2147483646 2147483647 -2147483647 1\n-2147483647 2147483647 -2147483648 -2147483648 1\n0 0 0 -2147483648 -2147483648\n-2 0 1 -2147483647 2147483647\n131072 0 0 -65536 65536\n1111111110 -864197532 -67153019 -123456789 987654321\n-2147483648\n2147483647\n-2147483648\n-2147483648\n",
-        ),
-    )?;
-    check(
-        &rt,
-        alloc,
-        programs::bits_and_comparisons::program(b),
-        plain(
-            "8 14 6 -13\n2147483647 -1 -2147483648 0\n0 -2147483393 -2147483393 2147483647\ntrue true false false false true\nfalse true false true true false\nfalse false true true false true\ntrue true false true false false\nfalse true true false true false\nfalse false false true false true\ntrue false false true\nfalse true false true\ntrue false true false\nfalse true false false\n",
-        ),
-    )?;
-    check(
-        &rt,
-        alloc,
-        programs::wide_texts::program(b),
-        plain("2\n3\né😀\n4\ntrue\nfalse\ntrue\n0\n1\n3\na\nb\n"),
-    )?;
-    check(
-        &rt,
-        alloc,
-        programs::concatenation::program(b),
-        plain(
-            "a12\n3a2\nanull\nnulla\nnullnull\ntrueafalse\n-214748364821474836470\n4\ntrue\n\n\nnulltruenull\n",
-        ),
-    )?;
-    check(
-        &rt,
-        alloc,
-        programs::defaults::program(b),
-        plain(
-            "0 false null true true\n2\nfalse null true\n42\ntrue\nuncaught NullPointerException\n",
-        ),
-    )?;
-    Ok(())
+        bits_and_comparisons::program(b),
+        bits_and_comparisons::PRINTS,
+    )
+}
+
+#[test]
+fn texts(rt: HostRuntime) -> Result<(), Fail> {
+    let alloc = rt.alloc();
+    let b = Builder { alloc };
+    check(&rt, alloc, wide_texts::program(b), wide_texts::PRINTS)?;
+    check(&rt, alloc, concatenation::program(b), concatenation::PRINTS)
 }
 
 #[test]
 fn order_of_work(rt: HostRuntime) -> Result<(), Fail> {
     let alloc = rt.alloc();
     let b = Builder { alloc };
+    check(&rt, alloc, operands::program(b), operands::PRINTS)?;
+    check(&rt, alloc, short_circuit::program(b), short_circuit::PRINTS)?;
+    check(&rt, alloc, element_order::program(b), element_order::PRINTS)?;
     check(
         &rt,
         alloc,
-        programs::operands::program(b),
-        plain("7\n2\n3\n1\n1\n2\n3\n123\n1\n0\n4\n3\nfalse\n5\n6\n56\n8\n9\n10\n7\n"),
+        null_target_order::program(b),
+        null_target_order::PRINTS,
     )?;
-    check(
-        &rt,
-        alloc,
-        programs::short_circuit::program(b),
-        plain("afalse\ncdtrue\netrue\nghfalse\nijfalse\nkltrue\nmnfalse\nop1\nrt2\nuwtrue\n"),
-    )?;
-    check(
-        &rt,
-        alloc,
-        programs::element_order::program(b),
-        plain("aiv 7\naiv outside\naiv outside\naiv null\nai0\nai outside\nai outside\niai null\n"),
-    )?;
-    check(
-        &rt,
-        alloc,
-        programs::null_target_order::program(b),
-        plain("bv 7\nbv null\nbvv43\nbvv null\nbv41\nb null\n"),
-    )?;
-    check(
-        &rt,
-        alloc,
-        programs::making::program(b),
-        plain(
-            "main 3\nargument 30\nx 1\nHigh 30 1\nLow.hook 1 0 null\ny 50\nLow 3 50\nLow.hook 30 50 set\n30 50 set\nmain 4\nx 1\nHigh 4 1\nHigh.hook 1\n4\n",
-        ),
-    )?;
-    Ok(())
+    check(&rt, alloc, making::program(b), making::PRINTS)
 }
 
 #[test]
@@ -112,22 +52,21 @@ fn compound_assignments(rt: HostRuntime) -> Result<(), Fail> {
     check(
         &rt,
         alloc,
-        programs::compound_field::program(b),
-        plain("bv done 33\nbv zero 33\nbv ninety-nine 33\nb null\nb null\nbv done -11\n"),
+        compound_field::program(b),
+        compound_field::PRINTS,
     )?;
     check(
         &rt,
         alloc,
-        programs::compound_element::program(b),
-        plain("aiv zero -17\naiv thrown -17\naiv -2\nai outside\nai outside\nai null\n"),
+        compound_element::program(b),
+        compound_element::PRINTS,
     )?;
     check(
         &rt,
         alloc,
-        programs::compound_values::program(b),
-        plain("15\n-1 14\n14\nfalse\ns1nulltruex\nnull1nulltruex\n"),
-    )?;
-    Ok(())
+        compound_values::program(b),
+        compound_values::PRINTS,
+    )
 }
 
 #[test]
@@ -137,173 +76,167 @@ fn finally_blocks(rt: HostRuntime) -> Result<(), Fail> {
     check(
         &rt,
         alloc,
-        programs::finally_normal::program(b),
-        plain(
-            "try on finally behind -11\ntry finally 1\ntry finally -11\ntry finally -11\ntry finally four\n",
-        ),
+        finally_normal::program(b),
+        finally_normal::PRINTS,
     )?;
     check(
         &rt,
         alloc,
-        programs::finally_return::program(b),
-        plain("normal finally 100\nfinally 101\nfinally 102\nfinally 103\nfinally 104\nok\n"),
+        finally_return::program(b),
+        finally_return::PRINTS,
     )?;
+    check(&rt, alloc, finally_jump::program(b), finally_jump::PRINTS)?;
+    check(&rt, alloc, finally_throw::program(b), finally_throw::PRINTS)?;
     check(
         &rt,
         alloc,
-        programs::finally_jump::program(b),
-        plain("normal normal normal normal 1 3\n1 3\n1 3\n1 3\n1 3\n"),
-    )?;
-    check(
-        &rt,
-        alloc,
-        programs::finally_throw::program(b),
-        plain("finally 0 1\nfinally 1 1\nfinally 2 1\nfinally 3 1\nfinally 4 1\n"),
-    )?;
-    check(
-        &rt,
-        alloc,
-        programs::finally_nested::program(b),
-        plain("kept 1\nadefg\nabdefg\nabdecg\n"),
-    )?;
-    check(
-        &rt,
-        alloc,
-        programs::uncaught_through_finally::program(b),
-        plain("inner\ninner finally\nouter finally\nuncaught IllegalArgumentException: of inner\n"),
-    )?;
-    Ok(())
+        finally_nested::program(b),
+        finally_nested::PRINTS,
+    )
 }
 
 #[test]
 fn exceptions(rt: HostRuntime) -> Result<(), Fail> {
     let alloc = rt.alloc();
     let b = Builder { alloc };
+    check(&rt, alloc, catch_order::program(b), catch_order::PRINTS)?;
+    check(&rt, alloc, null_members::program(b), null_members::PRINTS)?;
+    check(&rt, alloc, throw_null::program(b), throw_null::PRINTS)?;
+    check(&rt, alloc, negative_size::program(b), negative_size::PRINTS)
+}
+
+#[test]
+fn uncaught_exceptions(rt: HostRuntime) -> Result<(), Fail> {
+    let alloc = rt.alloc();
+    let b = Builder { alloc };
     check(
         &rt,
         alloc,
-        programs::catch_order::program(b),
-        plain(
-            "Small <small>\nLarge large\nmain <thrown again>\nRuntimeException runtime\nmain runtime\nError error\nmain checked\n",
-        ),
+        uncaught_message::program(b),
+        uncaught_message::PRINTS,
     )?;
     check(
         &rt,
         alloc,
-        programs::array_store::program(b),
-        plain(
-            "true\ntrue\ntrue\nrefused true\nrefused true\ntrue\ntrue\nrefused true\ntrue\nrefused true\ntrue\noutside\nuncaught ArrayStoreException\n",
-        ),
+        uncaught_plain::program(b),
+        uncaught_plain::PRINTS,
     )?;
     check(
         &rt,
         alloc,
-        programs::null_members::program(b),
-        plain(
-            "null\nnull\nnull\nnull\nnull\nnull\nnull\nnull\n0\n0\n4\n3\n2\n1\nthrown\n0\nnull\nfalse\ntrue\n",
-        ),
+        uncaught_override::program(b),
+        uncaught_override::PRINTS,
     )?;
     check(
         &rt,
         alloc,
-        programs::throw_null::program(b),
-        plain("taken false\nuncaught NullPointerException\n"),
-    )?;
-    check(
-        &rt,
-        alloc,
-        programs::negative_size::program(b),
-        plain(
-            "size 3\nsize 0\nsize negative\nsize negative\nsize uncaught NegativeArraySizeException\n",
-        ),
-    )?;
-    Ok(())
+        uncaught_through_finally::program(b),
+        uncaught_through_finally::PRINTS,
+    )
 }
 
 #[test]
 fn classes(rt: HostRuntime) -> Result<(), Fail> {
     let alloc = rt.alloc();
     let b = Builder { alloc };
+    check(&rt, alloc, casts::program(b), casts::PRINTS)?;
+    check(&rt, alloc, dispatch::program(b), dispatch::PRINTS)?;
+    check(&rt, alloc, static_calls::program(b), static_calls::PRINTS)?;
+    check(&rt, alloc, messages::program(b), messages::PRINTS)
+}
+
+#[test]
+fn heaps(rt: HostRuntime) -> Result<(), Fail> {
+    let alloc = rt.alloc();
+    let b = Builder { alloc };
+    check(&rt, alloc, array_store::program(b), array_store::PRINTS)?;
+    check(&rt, alloc, list::program(b), list::PRINTS)?;
+    check(&rt, alloc, defaults::program(b), defaults::PRINTS)?;
+    check(&rt, alloc, loops::program(b), loops::PRINTS)
+}
+
+#[test]
+fn depths(rt: HostRuntime) -> Result<(), Fail> {
+    let alloc = rt.alloc();
+    let b = Builder { alloc };
+    check(&rt, alloc, depth::program(b), depth::PRINTS)?;
     check(
         &rt,
         alloc,
-        programs::casts::program(b),
-        plain(
-            "true true true true\nfalse true true refused\nfalse false true refused\nfalse false false true\nfalse false true refused\nfalse true true true\nfalse true true true\nfalse true false refused\ntrue false false refused\nfalse true false refused\nfalse false false refused\nfalse false false true\nlow\nuncaught ClassCastException\n",
-        ),
-    )?;
-    check(
-        &rt,
-        alloc,
-        programs::dispatch::program(b),
-        plain(
-            "top 6 [top]\nmiddle of top 16 [middle of top]\nbottom of middle of top 16 [bottom of middle of top]!\nbottom of middle of top 7\n11\n",
-        ),
-    )?;
-    check(
-        &rt,
-        alloc,
-        programs::static_calls::program(b),
-        plain("55\ntrue false true\n1024 1\n42w6\n2147483646\n"),
-    )?;
-    check(
-        &rt,
-        alloc,
-        programs::messages::program(b),
-        plain("null\ngiven\nnull\nname\nloud!\nlouderlouder!!!\nthrownthrown!!!\ntrue\n"),
-    )?;
-    check(
-        &rt,
-        alloc,
-        programs::list::program(b),
-        plain("-2 1 3 3 5 \n5 3 3 1 -2 \n5\n"),
-    )?;
+        depth_of_making::program(b),
+        depth_of_making::PRINTS,
+    )
+}
+
+/// So many copies of a text.
+fn repeated(alloc: Global, text: &str, count: usize) -> Result<String, AllocError> {
+    let mut all = String::new(alloc);
+    for _ in 0..count {
+        all.push_str(text)?;
+    }
+    Ok(all)
+}
+
+#[test]
+fn arguments_are_given(rt: HostRuntime) -> Result<(), Fail> {
+    let alloc = rt.alloc();
+    let program = arguments::program(Builder { alloc })?;
+    let mut args = Vec::new(alloc);
+    for arg in ["a", "", "é😀", "a b"] {
+        args.push(String::from_str(alloc, arg)?)?;
+    }
+    check_run(&rt, alloc, &program, &args, AMPLE, arguments::PRINTS)?;
+    Ok(())
+}
+
+/// An argument may have 1,048,576 code units. One that has more ends the run before its first step.
+#[test]
+fn arguments_are_not_too_long(rt: HostRuntime) -> Result<(), Fail> {
+    let alloc = rt.alloc();
+    let program = full_text::program(Builder { alloc })?;
+    let longest = repeated(alloc, "😀", 524_288)?;
+    let longer = format!(in alloc; "{longest}a")?;
+    let longest = [longest];
+    check_run(&rt, alloc, &program, &longest, AMPLE, full_text::PRINTS)?;
+    let longer = [longer];
+    let steps = check_run(&rt, alloc, &program, &longer, AMPLE, "full text\n")?;
+    assert_eq!(rt; steps, 0);
     Ok(())
 }
 
 #[test]
-fn uncaught(rt: HostRuntime) -> Result<(), Fail> {
+fn the_heap_may_be_full(rt: HostRuntime) -> Result<(), Fail> {
     let alloc = rt.alloc();
-    let b = Builder { alloc };
-    check(
-        &rt,
-        alloc,
-        programs::uncaught_message::program(b),
-        plain("2\n1\nuncaught Trouble: deep 7truenull\n"),
-    )?;
-    check(
-        &rt,
-        alloc,
-        programs::uncaught_plain::program(b),
-        plain("before\nmade\nuncaught Plain\n"),
-    )?;
-    check(
-        &rt,
-        alloc,
-        programs::uncaught_override::program(b),
-        plain("masked\nuncaught Masked: given\n"),
-    )?;
+    let program = full_heap::program(Builder { alloc })?;
+    check_run(&rt, alloc, &program, &[], AMPLE, full_heap::PRINTS)?;
+    let args = [String::new(alloc)];
+    check_run(&rt, alloc, &program, &args, AMPLE, "16777213\nmade\n")?;
     Ok(())
 }
 
+/// A run that wants one step more than it may take ends there, and has taken them all.
 #[test]
-fn loops_and_arguments(rt: HostRuntime) -> Result<(), Fail> {
+fn steps_are_spent(rt: HostRuntime) -> Result<(), Fail> {
     let alloc = rt.alloc();
-    let b = Builder { alloc };
-    check(
-        &rt,
-        alloc,
-        programs::loops::program(b),
-        plain("0 10\n2 6\n3 4\n1\n3\n5\n1 ? ? 3 ? end\n0123\n-\n012\n01\n-\n0\nonce\n"),
-    )?;
-    check(
-        &rt,
-        alloc,
-        programs::arguments::program(b),
-        Row {
-            args: &["a", "", "é😀", "a b"],
-            ..plain("4\n1 a\n0 \n3 é😀\n3 a b\nachanged\nnull\n")
-        },
-    )?;
+    let endless = steps::program(Builder { alloc })?;
+    let ending = uncaught_plain::program(Builder { alloc })?;
+    for (steps, prints) in [
+        (0, "steps spent\n"),
+        (3, "steps spent\n"),
+        (4, "3\nsteps spent\n"),
+        (100, steps::PRINTS),
+    ] {
+        let taken = check_run(&rt, alloc, &endless, &[], steps, prints)?;
+        assert_eq!(rt; taken, steps);
+    }
+    for (steps, prints, wanted) in [
+        (1, "steps spent\n", 1),
+        (5, "before\nsteps spent\n", 5),
+        (6, uncaught_plain::PRINTS, 6),
+        (7, uncaught_plain::PRINTS, 6),
+    ] {
+        let taken = check_run(&rt, alloc, &ending, &[], steps, prints)?;
+        assert_eq!(rt; taken, wanted);
+    }
     Ok(())
 }

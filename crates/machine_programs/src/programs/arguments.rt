@@ -2,27 +2,40 @@
 //! The source is java/35_arguments.java.
 
 use crate::builder::{Builder, Made};
-use core_tree::{BinOp, BuiltIn, Class, Maker, Method, Program};
+use core_tree::{BinOp, BuiltIn, Class, Method, Program};
 
 const MAIN: u32 = 18;
 
 const RUN_MAIN: u32 = 0;
 
+/// What it prints, and how it ends unless it comes to its end.
+pub const PRINTS: &str = "\
+    4\n\
+    1 a\n\
+    0 \n\
+    3 \u{e9}\u{1f600}\n\
+    3 a b\n\
+    achanged\n\
+    null\n\
+    ";
+
 pub fn program(b: Builder) -> Made<Program> {
-    b.program([main_class(b)], [main_method(b)], [main_maker(b)], RUN_MAIN)
+    b.program(
+        [main_class(b)],
+        [main_method(b)],
+        [b.plain_maker(MAIN)],
+        RUN_MAIN,
+    )
 }
 
 fn main_class(b: Builder) -> Made<Class> {
     b.class("Main", BuiltIn::Object.number(), [], &[None])
 }
 
-// static void main(String[] args). Local 1 is i.
+// main. Local 1 is i.
 fn main_method(b: Builder) -> Made<Method> {
-    b.static_method(
-        "main",
+    b.main_method(
         MAIN,
-        [b.array_type(b.text_type())],
-        b.no_type(),
         [b.int_type()],
         [
             b.print_line(b.length(b.local(0))),
@@ -44,9 +57,4 @@ fn main_method(b: Builder) -> Made<Method> {
             b.print_line(b.element(b.local(0), b.int(0))),
         ],
     )
-}
-
-// Main()
-fn main_maker(b: Builder) -> Made<Maker> {
-    b.maker(MAIN, [], b.plain_parent(), [], [])
 }

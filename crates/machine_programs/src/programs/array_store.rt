@@ -18,11 +18,28 @@ const MAKE_MAIN: u32 = 0;
 
 const MAKE_SUB: u32 = 1;
 
+/// What it prints, and how it ends unless it comes to its end.
+pub const PRINTS: &str = "\
+    true\n\
+    true\n\
+    true\n\
+    refused true\n\
+    refused true\n\
+    true\n\
+    true\n\
+    refused true\n\
+    true\n\
+    refused true\n\
+    true\n\
+    outside\n\
+    uncaught ArrayStoreException\n\
+    ";
+
 pub fn program(b: Builder) -> Made<Program> {
     b.program(
         [main_class(b), sub_class(b)],
         [store_method(b), outside_method(b), main_method(b)],
-        [main_maker(b), sub_maker(b)],
+        [b.plain_maker(MAIN), sub_maker(b)],
         RUN_MAIN,
     )
 }
@@ -85,13 +102,10 @@ fn outside_method(b: Builder) -> Made<Method> {
     )
 }
 
-// static void main(String[] args). Local 1 is last.
+// main. Local 1 is last.
 fn main_method(b: Builder) -> Made<Method> {
-    b.static_method(
-        "main",
+    b.main_method(
         MAIN,
-        [b.array_type(b.text_type())],
-        b.no_type(),
         [b.array_type(b.class_type(BuiltIn::Object.number()))],
         [
             b.eval(b.call_static(
@@ -186,11 +200,6 @@ fn main_method(b: Builder) -> Made<Method> {
             ),
         ],
     )
-}
-
-// Main()
-fn main_maker(b: Builder) -> Made<Maker> {
-    b.maker(MAIN, [], b.plain_parent(), [], [])
 }
 
 // Sub()

@@ -2,7 +2,7 @@
 //! The source is java/20_bits_and_comparisons.java.
 
 use crate::builder::{Builder, Made};
-use core_tree::{BinOp, BuiltIn, Class, Maker, Method, Program, UnOp};
+use core_tree::{BinOp, BuiltIn, Class, Method, Program, UnOp};
 
 const MAIN: u32 = 18;
 
@@ -18,6 +18,23 @@ const RUN_MAIN: u32 = 4;
 
 const MAKE_MAIN: u32 = 0;
 
+/// What it prints, and how it ends unless it comes to its end.
+pub const PRINTS: &str = "\
+    8 14 6 -13\n\
+    2147483647 -1 -2147483648 0\n\
+    0 -2147483393 -2147483393 2147483647\n\
+    true true false false false true\n\
+    false true false true true false\n\
+    false false true true false true\n\
+    true true false true false false\n\
+    false true true false true false\n\
+    false false false true false true\n\
+    true false false true\n\
+    false true false true\n\
+    true false true false\n\
+    false true false false\n\
+    ";
+
 pub fn program(b: Builder) -> Made<Program> {
     b.program(
         [main_class(b)],
@@ -28,7 +45,7 @@ pub fn program(b: Builder) -> Made<Program> {
             references_method(b),
             main_method(b),
         ],
-        [main_maker(b)],
+        [b.plain_maker(MAIN)],
         RUN_MAIN,
     )
 }
@@ -148,13 +165,10 @@ fn references_method(b: Builder) -> Made<Method> {
     )
 }
 
-// static void main(String[] args). Local 1 is m.
+// main. Local 1 is m.
 fn main_method(b: Builder) -> Made<Method> {
-    b.static_method(
-        "main",
+    b.main_method(
         MAIN,
-        [b.array_type(b.text_type())],
-        b.no_type(),
         [b.class_type(MAIN)],
         [
             b.eval(b.call_static(BITS, [b.int(12), b.int(10)])),
@@ -176,9 +190,4 @@ fn main_method(b: Builder) -> Made<Method> {
             b.eval(b.call_static(REFERENCES, [b.local(0), b.null()])),
         ],
     )
-}
-
-// Main()
-fn main_maker(b: Builder) -> Made<Maker> {
-    b.maker(MAIN, [], b.plain_parent(), [], [])
 }

@@ -24,6 +24,24 @@ const MAKE_LOW: u32 = 2;
 
 const SELECT_NAME: u32 = 1;
 
+/// What it prints, and how it ends unless it comes to its end.
+pub const PRINTS: &str = "\
+    true true true true\n\
+    false true true refused\n\
+    false false true refused\n\
+    false false false true\n\
+    false false true refused\n\
+    false true true true\n\
+    false true true true\n\
+    false true false refused\n\
+    true false false refused\n\
+    false true false refused\n\
+    false false false refused\n\
+    false false false true\n\
+    low\n\
+    uncaught ClassCastException\n\
+    ";
+
 pub fn program(b: Builder) -> Made<Program> {
     b.program(
         [main_class(b), high_class(b), low_class(b)],
@@ -33,7 +51,7 @@ pub fn program(b: Builder) -> Made<Program> {
             main_method(b),
             low_name_method(b),
         ],
-        [main_maker(b), high_maker(b), low_maker(b)],
+        [b.plain_maker(MAIN), b.plain_maker(HIGH), low_maker(b)],
         RUN_MAIN,
     )
 }
@@ -131,13 +149,10 @@ fn to_array_method(b: Builder) -> Made<Method> {
     )
 }
 
-// static void main(String[] args). Local 1 is high, 2 is low.
+// main. Local 1 is high, 2 is low.
 fn main_method(b: Builder) -> Made<Method> {
-    b.static_method(
-        "main",
+    b.main_method(
         MAIN,
-        [b.array_type(b.text_type())],
-        b.no_type(),
         [b.class_type(HIGH), b.class_type(LOW)],
         [
             b.eval(b.call_static(TO_LOW, [b.make(MAKE_LOW, [])])),
@@ -183,16 +198,6 @@ fn low_name_method(b: Builder) -> Made<Method> {
         [],
         [b.answer(b.text("low"))],
     )
-}
-
-// Main()
-fn main_maker(b: Builder) -> Made<Maker> {
-    b.maker(MAIN, [], b.plain_parent(), [], [])
-}
-
-// High()
-fn high_maker(b: Builder) -> Made<Maker> {
-    b.maker(HIGH, [], b.plain_parent(), [], [])
 }
 
 // Low()

@@ -22,11 +22,22 @@ const MAKE_SMALL: u32 = 1;
 
 const SELECT_GET_MESSAGE: u32 = 0;
 
+/// What it prints, and how it ends unless it comes to its end.
+pub const PRINTS: &str = "\
+    Small <small>\n\
+    Large large\n\
+    main <thrown again>\n\
+    RuntimeException runtime\n\
+    main runtime\n\
+    Error error\n\
+    main checked\n\
+    ";
+
 pub fn program(b: Builder) -> Made<Program> {
     b.program(
         [main_class(b), large_class(b), small_class(b)],
         [fail_method(b), sort_method(b), main_method(b)],
-        [large_maker(b), small_maker(b), main_maker(b)],
+        [large_maker(b), small_maker(b), b.plain_maker(MAIN)],
         RUN_MAIN,
     )
 }
@@ -140,13 +151,10 @@ fn sort_method(b: Builder) -> Made<Method> {
     )
 }
 
-// static void main(String[] args). Local 1 is way, 2 is e.
+// main. Local 1 is way, 2 is e.
 fn main_method(b: Builder) -> Made<Method> {
-    b.static_method(
-        "main",
+    b.main_method(
         MAIN,
-        [b.array_type(b.text_type())],
-        b.no_type(),
         [b.int_type(), b.class_type(BuiltIn::Throwable.number())],
         [b.for_loop(
             [b.declare(1, b.int_type(), b.int(0))],
@@ -190,9 +198,4 @@ fn small_maker(b: Builder) -> Made<Maker> {
         [],
         [],
     )
-}
-
-// Main()
-fn main_maker(b: Builder) -> Made<Maker> {
-    b.maker(MAIN, [], b.plain_parent(), [], [])
 }

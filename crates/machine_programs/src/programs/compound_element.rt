@@ -2,7 +2,7 @@
 //! The source is java/06_compound_element.java.
 
 use crate::builder::{Builder, Made};
-use core_tree::{BinOp, BuiltIn, Class, Maker, Method, Program, UnOp, UpOp};
+use core_tree::{BinOp, BuiltIn, Class, Method, Program, UnOp, UpOp};
 
 const MAIN: u32 = 18;
 
@@ -16,6 +16,16 @@ const REMAINDER: u32 = 3;
 
 const RUN_MAIN: u32 = 4;
 
+/// What it prints, and how it ends unless it comes to its end.
+pub const PRINTS: &str = "\
+    aiv zero -17\n\
+    aiv thrown -17\n\
+    aiv -2\n\
+    ai outside\n\
+    ai outside\n\
+    ai null\n\
+    ";
+
 pub fn program(b: Builder) -> Made<Program> {
     b.program(
         [main_class(b)],
@@ -26,7 +36,7 @@ pub fn program(b: Builder) -> Made<Program> {
             remainder_method(b),
             main_method(b),
         ],
-        [main_maker(b)],
+        [b.plain_maker(MAIN)],
         RUN_MAIN,
     )
 }
@@ -135,13 +145,10 @@ fn remainder_method(b: Builder) -> Made<Method> {
     )
 }
 
-// static void main(String[] args). Local 1 is a.
+// main. Local 1 is a.
 fn main_method(b: Builder) -> Made<Method> {
-    b.static_method(
-        "main",
+    b.main_method(
         MAIN,
-        [b.array_type(b.text_type())],
-        b.no_type(),
         [b.array_type(b.int_type())],
         [
             b.declare(
@@ -164,9 +171,4 @@ fn main_method(b: Builder) -> Made<Method> {
             b.eval(b.call_static(REMAINDER, [b.null(), b.int(9), b.int(99)])),
         ],
     )
-}
-
-// Main()
-fn main_maker(b: Builder) -> Made<Maker> {
-    b.maker(MAIN, [], b.plain_parent(), [], [])
 }

@@ -2,7 +2,7 @@
 //! The source is java/05_compound_field.java.
 
 use crate::builder::{Builder, Made};
-use core_tree::{BinOp, BuiltIn, Class, Field, Maker, Method, Program, UnOp, UpOp};
+use core_tree::{BinOp, BuiltIn, Class, Method, Program, UnOp, UpOp};
 
 const MAIN: u32 = 18;
 
@@ -22,6 +22,16 @@ const SELECT_GET_MESSAGE: u32 = 0;
 
 const BOX_N: u32 = 0;
 
+/// What it prints, and how it ends unless it comes to its end.
+pub const PRINTS: &str = "\
+    bv done 33\n\
+    bv zero 33\n\
+    bv ninety-nine 33\n\
+    b null\n\
+    b null\n\
+    bv done -11\n\
+    ";
+
 pub fn program(b: Builder) -> Made<Program> {
     b.program(
         [main_class(b), box_class(b)],
@@ -31,7 +41,7 @@ pub fn program(b: Builder) -> Made<Program> {
             divide_method(b),
             main_method(b),
         ],
-        [main_maker(b), box_maker(b)],
+        [b.plain_maker(MAIN), b.plain_maker(BOX)],
         RUN_MAIN,
     )
 }
@@ -41,11 +51,12 @@ fn main_class(b: Builder) -> Made<Class> {
 }
 
 fn box_class(b: Builder) -> Made<Class> {
-    b.class("Box", BuiltIn::Object.number(), [box_n_field(b)], &[None])
-}
-
-fn box_n_field(b: Builder) -> Made<Field> {
-    b.field_with("n", BOX, b.int_type(), b.int(100))
+    b.class(
+        "Box",
+        BuiltIn::Object.number(),
+        [b.field_with("n", BOX, b.int_type(), b.int(100))],
+        &[None],
+    )
 }
 
 // static Box box(Box b)
@@ -132,13 +143,10 @@ fn divide_method(b: Builder) -> Made<Method> {
     )
 }
 
-// static void main(String[] args). Local 1 is b.
+// main. Local 1 is b.
 fn main_method(b: Builder) -> Made<Method> {
-    b.static_method(
-        "main",
+    b.main_method(
         MAIN,
-        [b.array_type(b.text_type())],
-        b.no_type(),
         [b.class_type(BOX)],
         [
             b.declare(1, b.class_type(BOX), b.make(MAKE_BOX, [])),
@@ -150,14 +158,4 @@ fn main_method(b: Builder) -> Made<Method> {
             b.eval(b.call_static(DIVIDE, [b.local(1), b.unary(UnOp::Neg, b.int(3))])),
         ],
     )
-}
-
-// Main()
-fn main_maker(b: Builder) -> Made<Maker> {
-    b.maker(MAIN, [], b.plain_parent(), [], [])
-}
-
-// Box()
-fn box_maker(b: Builder) -> Made<Maker> {
-    b.maker(BOX, [], b.plain_parent(), [], [])
 }

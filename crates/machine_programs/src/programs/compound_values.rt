@@ -2,7 +2,7 @@
 //! The source is java/07_compound_values.java.
 
 use crate::builder::{Builder, Made};
-use core_tree::{BuiltIn, Class, Field, Maker, Method, Program, UpOp};
+use core_tree::{BuiltIn, Class, Method, Program, UpOp};
 
 const MAIN: u32 = 18;
 
@@ -24,6 +24,16 @@ const SELECT_CHANGE: u32 = 1;
 
 const MAIN_N: u32 = 0;
 
+/// What it prints, and how it ends unless it comes to its end.
+pub const PRINTS: &str = "\
+    15\n\
+    -1 14\n\
+    14\n\
+    false\n\
+    s1nulltruex\n\
+    null1nulltruex\n\
+    ";
+
 pub fn program(b: Builder) -> Made<Program> {
     b.program(
         [main_class(b)],
@@ -35,7 +45,7 @@ pub fn program(b: Builder) -> Made<Program> {
             texts_method(b),
             main_method(b),
         ],
-        [main_maker(b)],
+        [b.plain_maker(MAIN)],
         RUN_MAIN,
     )
 }
@@ -44,13 +54,9 @@ fn main_class(b: Builder) -> Made<Class> {
     b.class(
         "Main",
         BuiltIn::Object.number(),
-        [main_n_field(b)],
+        [b.field_with("n", MAIN, b.int_type(), b.int(10))],
         &[None, Some(CHANGE)],
     )
-}
-
-fn main_n_field(b: Builder) -> Made<Field> {
-    b.field_with("n", MAIN, b.int_type(), b.int(10))
 }
 
 // int change()
@@ -143,13 +149,10 @@ fn texts_method(b: Builder) -> Made<Method> {
     )
 }
 
-// static void main(String[] args). Local 1 is m, 2 is a.
+// main. Local 1 is m, 2 is a.
 fn main_method(b: Builder) -> Made<Method> {
-    b.static_method(
-        "main",
+    b.main_method(
         MAIN,
-        [b.array_type(b.text_type())],
-        b.no_type(),
         [b.class_type(MAIN), b.array_type(b.int_type())],
         [
             b.declare(1, b.class_type(MAIN), b.make(MAKE_MAIN, [])),
@@ -182,9 +185,4 @@ fn main_method(b: Builder) -> Made<Method> {
             b.print_line(b.call_static(TEXTS, [b.null()])),
         ],
     )
-}
-
-// Main()
-fn main_maker(b: Builder) -> Made<Maker> {
-    b.maker(MAIN, [], b.plain_parent(), [], [])
 }

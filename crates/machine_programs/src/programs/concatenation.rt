@@ -2,7 +2,7 @@
 //! The source is java/24_concatenation.java.
 
 use crate::builder::{Builder, Made};
-use core_tree::{BinOp, BuiltIn, Class, Maker, Method, Program, UnOp};
+use core_tree::{BinOp, BuiltIn, Class, Method, Program, UnOp};
 
 const MAIN: u32 = 18;
 
@@ -10,11 +10,27 @@ const NOTHING: u32 = 0;
 
 const RUN_MAIN: u32 = 1;
 
+/// What it prints, and how it ends unless it comes to its end.
+pub const PRINTS: &str = "\
+    a12\n\
+    3a2\n\
+    anull\n\
+    nulla\n\
+    nullnull\n\
+    trueafalse\n\
+    -214748364821474836470\n\
+    4\n\
+    true\n\
+    \n\
+    \n\
+    nulltruenull\n\
+    ";
+
 pub fn program(b: Builder) -> Made<Program> {
     b.program(
         [main_class(b)],
         [nothing_method(b), main_method(b)],
-        [main_maker(b)],
+        [b.plain_maker(MAIN)],
         RUN_MAIN,
     )
 }
@@ -28,13 +44,10 @@ fn nothing_method(b: Builder) -> Made<Method> {
     b.static_method("nothing", MAIN, [], b.text_type(), [], [b.answer(b.null())])
 }
 
-// static void main(String[] args). Local 1 is none.
+// main. Local 1 is none.
 fn main_method(b: Builder) -> Made<Method> {
-    b.static_method(
-        "main",
+    b.main_method(
         MAIN,
-        [b.array_type(b.text_type())],
-        b.no_type(),
         [b.text_type()],
         [
             b.declare(1, b.text_type(), b.null()),
@@ -65,9 +78,4 @@ fn main_method(b: Builder) -> Made<Method> {
             b.print_line(b.local(1)),
         ],
     )
-}
-
-// Main()
-fn main_maker(b: Builder) -> Made<Maker> {
-    b.maker(MAIN, [], b.plain_parent(), [], [])
 }

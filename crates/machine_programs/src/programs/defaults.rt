@@ -2,7 +2,7 @@
 //! The source is java/40_defaults.java.
 
 use crate::builder::{Builder, Made};
-use core_tree::{BinOp, BuiltIn, Class, Field, Maker, Method, Program, UpOp};
+use core_tree::{BinOp, BuiltIn, Class, Method, Program, UpOp};
 
 const MAIN: u32 = 18;
 
@@ -26,11 +26,21 @@ const MAIN_OTHER: u32 = 3;
 
 const MAIN_NUMBERS: u32 = 4;
 
+/// What it prints, and how it ends unless it comes to its end.
+pub const PRINTS: &str = "\
+    0 false null true true\n\
+    2\n\
+    false null true\n\
+    42\n\
+    true\n\
+    uncaught NullPointerException\n\
+    ";
+
 pub fn program(b: Builder) -> Made<Program> {
     b.program(
         [main_class(b)],
         [tell_method(b), sum_method(b), main_method(b)],
-        [main_maker(b)],
+        [b.plain_maker(MAIN)],
         RUN_MAIN,
     )
 }
@@ -40,34 +50,14 @@ fn main_class(b: Builder) -> Made<Class> {
         "Main",
         BuiltIn::Object.number(),
         [
-            main_number_field(b),
-            main_truth_field(b),
-            main_text_field(b),
-            main_other_field(b),
-            main_numbers_field(b),
+            b.field_named("number", MAIN, b.int_type()),
+            b.field_named("truth", MAIN, b.boolean_type()),
+            b.field_named("text", MAIN, b.text_type()),
+            b.field_named("other", MAIN, b.class_type(MAIN)),
+            b.field_named("numbers", MAIN, b.array_type(b.int_type())),
         ],
         &[None, Some(TELL)],
     )
-}
-
-fn main_number_field(b: Builder) -> Made<Field> {
-    b.field_named("number", MAIN, b.int_type())
-}
-
-fn main_truth_field(b: Builder) -> Made<Field> {
-    b.field_named("truth", MAIN, b.boolean_type())
-}
-
-fn main_text_field(b: Builder) -> Made<Field> {
-    b.field_named("text", MAIN, b.text_type())
-}
-
-fn main_other_field(b: Builder) -> Made<Field> {
-    b.field_named("other", MAIN, b.class_type(MAIN))
-}
-
-fn main_numbers_field(b: Builder) -> Made<Field> {
-    b.field_named("numbers", MAIN, b.array_type(b.int_type()))
 }
 
 // void tell()
@@ -131,13 +121,10 @@ fn sum_method(b: Builder) -> Made<Method> {
     )
 }
 
-// static void main(String[] args). Local 1 is truths, 2 is texts, 3 is others, 4 is table.
+// main. Local 1 is truths, 2 is texts, 3 is others, 4 is table.
 fn main_method(b: Builder) -> Made<Method> {
-    b.static_method(
-        "main",
+    b.main_method(
         MAIN,
-        [b.array_type(b.text_type())],
-        b.no_type(),
         [
             b.array_type(b.boolean_type()),
             b.array_type(b.text_type()),
@@ -201,9 +188,4 @@ fn main_method(b: Builder) -> Made<Method> {
             ),
         ],
     )
-}
-
-// Main()
-fn main_maker(b: Builder) -> Made<Maker> {
-    b.maker(MAIN, [], b.plain_parent(), [], [])
 }

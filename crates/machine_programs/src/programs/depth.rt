@@ -2,7 +2,7 @@
 //! The source is java/25_depth.java.
 
 use crate::builder::{Builder, Made};
-use core_tree::{BinOp, BuiltIn, Class, Maker, Method, Program};
+use core_tree::{BinOp, BuiltIn, Class, Method, Program};
 
 const MAIN: u32 = 18;
 
@@ -14,11 +14,18 @@ const RUN_MAIN: u32 = 2;
 
 const SELECT_GET_MESSAGE: u32 = 0;
 
+/// What it prints, and how it ends unless it comes to its end.
+pub const PRINTS: &str = "\
+    65536\n\
+    null\n\
+    uncaught StackOverflowError\n\
+    ";
+
 pub fn program(b: Builder) -> Made<Program> {
     b.program(
         [main_class(b)],
         [deepest_method(b), endless_method(b), main_method(b)],
-        [main_maker(b)],
+        [b.plain_maker(MAIN)],
         RUN_MAIN,
     )
 }
@@ -61,13 +68,10 @@ fn endless_method(b: Builder) -> Made<Method> {
     )
 }
 
-// static void main(String[] args). Local 1 is e.
+// main. Local 1 is e.
 fn main_method(b: Builder) -> Made<Method> {
-    b.static_method(
-        "main",
+    b.main_method(
         MAIN,
-        [b.array_type(b.text_type())],
-        b.no_type(),
         [b.class_type(BuiltIn::StackOverflowError.number())],
         [
             b.print_line(b.call_static(DEEPEST, [b.int(2)])),
@@ -82,9 +86,4 @@ fn main_method(b: Builder) -> Made<Method> {
             b.eval(b.call_static(ENDLESS, [])),
         ],
     )
-}
-
-// Main()
-fn main_maker(b: Builder) -> Made<Maker> {
-    b.maker(MAIN, [], b.plain_parent(), [], [])
 }

@@ -3,7 +3,7 @@
 //! The source is java/26_depth_of_making.java.
 
 use crate::builder::{Builder, Made};
-use core_tree::{BinOp, BuiltIn, Class, Field, Maker, Method, Program};
+use core_tree::{BinOp, BuiltIn, Class, Maker, Method, Program};
 
 const MAIN: u32 = 18;
 
@@ -27,11 +27,22 @@ const COUNT_HIGH: u32 = 0;
 
 const COUNT_LOW: u32 = 1;
 
+/// What it prints, and how it ends unless it comes to its end.
+pub const PRINTS: &str = "\
+    65534 65534\n\
+    65536\n\
+    ";
+
 pub fn program(b: Builder) -> Made<Program> {
     b.program(
         [main_class(b), count_class(b), high_class(b), low_class(b)],
         [main_method(b), deepest_method(b)],
-        [high_maker(b), low_maker(b), main_maker(b), count_maker(b)],
+        [
+            high_maker(b),
+            low_maker(b),
+            b.plain_maker(MAIN),
+            b.plain_maker(COUNT),
+        ],
         RUN_MAIN,
     )
 }
@@ -44,7 +55,10 @@ fn count_class(b: Builder) -> Made<Class> {
     b.class(
         "Count",
         BuiltIn::Object.number(),
-        [count_high_field(b), count_low_field(b)],
+        [
+            b.field_named("high", COUNT, b.int_type()),
+            b.field_named("low", COUNT, b.int_type()),
+        ],
         &[None],
     )
 }
@@ -57,21 +71,10 @@ fn low_class(b: Builder) -> Made<Class> {
     b.class("Low", HIGH, [], &[None])
 }
 
-fn count_high_field(b: Builder) -> Made<Field> {
-    b.field_named("high", COUNT, b.int_type())
-}
-
-fn count_low_field(b: Builder) -> Made<Field> {
-    b.field_named("low", COUNT, b.int_type())
-}
-
-// static void main(String[] args). Local 1 is count, 2 is e.
+// main. Local 1 is count, 2 is e.
 fn main_method(b: Builder) -> Made<Method> {
-    b.static_method(
-        "main",
+    b.main_method(
         MAIN,
-        [b.array_type(b.text_type())],
-        b.no_type(),
         [
             b.class_type(COUNT),
             b.class_type(BuiltIn::StackOverflowError.number()),
@@ -145,14 +148,4 @@ fn low_maker(b: Builder) -> Made<Maker> {
             b.eval(b.make(MAKE_LOW, [b.local(0)])),
         ],
     )
-}
-
-// Main()
-fn main_maker(b: Builder) -> Made<Maker> {
-    b.maker(MAIN, [], b.plain_parent(), [], [])
-}
-
-// Count()
-fn count_maker(b: Builder) -> Made<Maker> {
-    b.maker(COUNT, [], b.plain_parent(), [], [])
 }

@@ -50,6 +50,15 @@ const TOP_X: u32 = 0;
 
 const MIDDLE_Y: u32 = 1;
 
+/// What it prints, and how it ends unless it comes to its end.
+pub const PRINTS: &str = "\
+    top 6 [top]\n\
+    middle of top 16 [middle of top]\n\
+    bottom of middle of top 16 [bottom of middle of top]!\n\
+    bottom of middle of top 7\n\
+    11\n\
+    ";
+
 pub fn program(b: Builder) -> Made<Program> {
     b.program(
         [
@@ -71,8 +80,8 @@ pub fn program(b: Builder) -> Made<Program> {
             bottom_whole_method(b),
         ],
         [
-            main_maker(b),
-            top_maker(b),
+            b.plain_maker(MAIN),
+            b.plain_maker(TOP),
             middle_maker(b),
             bottom_maker(b),
         ],
@@ -156,13 +165,10 @@ fn tell_method(b: Builder) -> Made<Method> {
     )
 }
 
-// static void main(String[] args). Local 1 is middle.
+// main. Local 1 is middle.
 fn main_method(b: Builder) -> Made<Method> {
-    b.static_method(
-        "main",
+    b.main_method(
         MAIN,
-        [b.array_type(b.text_type())],
-        b.no_type(),
         [b.class_type(MIDDLE)],
         [
             b.eval(b.call_static(TELL, [b.make(MAKE_TOP, [])])),
@@ -287,16 +293,6 @@ fn bottom_whole_method(b: Builder) -> Made<Method> {
         [],
         [b.answer(b.concat(b.call_super(TOP_WHOLE, []), [b.text("!")]))],
     )
-}
-
-// Main()
-fn main_maker(b: Builder) -> Made<Maker> {
-    b.maker(MAIN, [], b.plain_parent(), [], [])
-}
-
-// Top()
-fn top_maker(b: Builder) -> Made<Maker> {
-    b.maker(TOP, [], b.plain_parent(), [], [])
 }
 
 // Middle()

@@ -2,7 +2,7 @@
 //! The source is java/17_division.java.
 
 use crate::builder::{Builder, Made};
-use core_tree::{BinOp, BuiltIn, Class, Maker, Method, Program, UnOp};
+use core_tree::{BinOp, BuiltIn, Class, Method, Program, UnOp};
 
 const MAIN: u32 = 18;
 
@@ -12,11 +12,27 @@ const REMAINDER: u32 = 1;
 
 const RUN_MAIN: u32 = 2;
 
+/// What it prints, and how it ends unless it comes to its end.
+pub const PRINTS: &str = "\
+    3 1\n\
+    -3 -1\n\
+    -3 1\n\
+    3 -1\n\
+    -2147483648 0\n\
+    -2147483648 0\n\
+    -1 -1\n\
+    0 2147483647\n\
+    0 0\n\
+    zero\n\
+    zero\n\
+    uncaught ArithmeticException\n\
+    ";
+
 pub fn program(b: Builder) -> Made<Program> {
     b.program(
         [main_class(b)],
         [both_method(b), remainder_method(b), main_method(b)],
-        [main_maker(b)],
+        [b.plain_maker(MAIN)],
         RUN_MAIN,
     )
 }
@@ -67,13 +83,9 @@ fn remainder_method(b: Builder) -> Made<Method> {
     )
 }
 
-// static void main(String[] args)
 fn main_method(b: Builder) -> Made<Method> {
-    b.static_method(
-        "main",
+    b.main_method(
         MAIN,
-        [b.array_type(b.text_type())],
-        b.no_type(),
         [],
         [
             b.eval(b.call_static(BOTH, [b.int(7), b.int(2)])),
@@ -99,9 +111,4 @@ fn main_method(b: Builder) -> Made<Method> {
             b.print_line(b.binary(BinOp::Div, b.int(1), b.int(0))),
         ],
     )
-}
-
-// Main()
-fn main_maker(b: Builder) -> Made<Maker> {
-    b.maker(MAIN, [], b.plain_parent(), [], [])
 }

@@ -2,7 +2,7 @@
 //! The source is java/03_element_order.java.
 
 use crate::builder::{Builder, Made};
-use core_tree::{BuiltIn, Class, Maker, Method, Program, UnOp};
+use core_tree::{BuiltIn, Class, Method, Program, UnOp};
 
 const MAIN: u32 = 18;
 
@@ -18,6 +18,18 @@ const READ: u32 = 4;
 
 const RUN_MAIN: u32 = 5;
 
+/// What it prints, and how it ends unless it comes to its end.
+pub const PRINTS: &str = "\
+    aiv 7\n\
+    aiv outside\n\
+    aiv outside\n\
+    aiv null\n\
+    ai0\n\
+    ai outside\n\
+    ai outside\n\
+    iai null\n\
+    ";
+
 pub fn program(b: Builder) -> Made<Program> {
     b.program(
         [main_class(b)],
@@ -29,7 +41,7 @@ pub fn program(b: Builder) -> Made<Program> {
             read_method(b),
             main_method(b),
         ],
-        [main_maker(b)],
+        [b.plain_maker(MAIN)],
         RUN_MAIN,
     )
 }
@@ -144,13 +156,9 @@ fn read_method(b: Builder) -> Made<Method> {
     )
 }
 
-// static void main(String[] args)
 fn main_method(b: Builder) -> Made<Method> {
-    b.static_method(
-        "main",
+    b.main_method(
         MAIN,
-        [b.array_type(b.text_type())],
-        b.no_type(),
         [],
         [
             b.eval(b.call_static(STORE, [b.make_array(b.int_type(), b.int(2)), b.int(1)])),
@@ -175,9 +183,4 @@ fn main_method(b: Builder) -> Made<Method> {
             b.eval(b.call_static(READ, [b.null(), b.call_static(INDEX, [b.int(1)])])),
         ],
     )
-}
-
-// Main()
-fn main_maker(b: Builder) -> Made<Maker> {
-    b.maker(MAIN, [], b.plain_parent(), [], [])
 }

@@ -2,7 +2,7 @@
 //! The source is java/11_finally_jump.java.
 
 use crate::builder::{Builder, Made};
-use core_tree::{BinOp, BuiltIn, Class, Maker, Method, Program};
+use core_tree::{BinOp, BuiltIn, Class, Method, Program};
 
 const MAIN: u32 = 18;
 
@@ -10,11 +10,20 @@ const LEAVE: u32 = 0;
 
 const RUN_MAIN: u32 = 1;
 
+/// What it prints, and how it ends unless it comes to its end.
+pub const PRINTS: &str = "\
+    normal normal normal normal 1 3\n\
+    1 3\n\
+    1 3\n\
+    1 3\n\
+    1 3\n\
+    ";
+
 pub fn program(b: Builder) -> Made<Program> {
     b.program(
         [main_class(b)],
         [leave_method(b), main_method(b)],
-        [main_maker(b)],
+        [b.plain_maker(MAIN)],
         RUN_MAIN,
     )
 }
@@ -69,13 +78,10 @@ fn leave_method(b: Builder) -> Made<Method> {
     )
 }
 
-// static void main(String[] args). Local 1 is way.
+// main. Local 1 is way.
 fn main_method(b: Builder) -> Made<Method> {
-    b.static_method(
-        "main",
+    b.main_method(
         MAIN,
-        [b.array_type(b.text_type())],
-        b.no_type(),
         [b.int_type()],
         [b.for_loop(
             [b.declare(1, b.int_type(), b.int(0))],
@@ -90,9 +96,4 @@ fn main_method(b: Builder) -> Made<Method> {
             ))]),
         )],
     )
-}
-
-// Main()
-fn main_maker(b: Builder) -> Made<Maker> {
-    b.maker(MAIN, [], b.plain_parent(), [], [])
 }

@@ -2,7 +2,7 @@
 //! The source is java/13_finally_nested.java.
 
 use crate::builder::{Builder, Made};
-use core_tree::{BinOp, BuiltIn, Class, Maker, Method, Program, UpOp};
+use core_tree::{BinOp, BuiltIn, Class, Method, Program, UpOp};
 
 const MAIN: u32 = 18;
 
@@ -14,11 +14,19 @@ const RUN_MAIN: u32 = 2;
 
 const SELECT_GET_MESSAGE: u32 = 0;
 
+/// What it prints, and how it ends unless it comes to its end.
+pub const PRINTS: &str = "\
+    kept 1\n\
+    adefg\n\
+    abdefg\n\
+    abdecg\n\
+    ";
+
 pub fn program(b: Builder) -> Made<Program> {
     b.program(
         [main_class(b)],
         [kept_method(b), nested_method(b), main_method(b)],
-        [main_maker(b)],
+        [b.plain_maker(MAIN)],
         RUN_MAIN,
     )
 }
@@ -128,13 +136,9 @@ fn nested_method(b: Builder) -> Made<Method> {
     )
 }
 
-// static void main(String[] args)
 fn main_method(b: Builder) -> Made<Method> {
-    b.static_method(
-        "main",
+    b.main_method(
         MAIN,
-        [b.array_type(b.text_type())],
-        b.no_type(),
         [],
         [
             b.print_line(b.call_static(KEPT, [])),
@@ -143,9 +147,4 @@ fn main_method(b: Builder) -> Made<Method> {
             b.print_line(b.call_static(NESTED, [b.int(2)])),
         ],
     )
-}
-
-// Main()
-fn main_maker(b: Builder) -> Made<Maker> {
-    b.maker(MAIN, [], b.plain_parent(), [], [])
 }

@@ -2,7 +2,7 @@
 //! The source is java/09_finally_normal.java.
 
 use crate::builder::{Builder, Made};
-use core_tree::{BinOp, BuiltIn, Class, Maker, Method, Program, UnOp, UpOp};
+use core_tree::{BinOp, BuiltIn, Class, Method, Program, UnOp, UpOp};
 
 const MAIN: u32 = 18;
 
@@ -14,11 +14,20 @@ const RUN_MAIN: u32 = 2;
 
 const SELECT_GET_MESSAGE: u32 = 0;
 
+/// What it prints, and how it ends unless it comes to its end.
+pub const PRINTS: &str = "\
+    try on finally behind -11\n\
+    try finally 1\n\
+    try finally -11\n\
+    try finally -11\n\
+    try finally four\n\
+    ";
+
 pub fn program(b: Builder) -> Made<Program> {
     b.program(
         [main_class(b)],
         [leave_method(b), run_method(b), main_method(b)],
-        [main_maker(b)],
+        [b.plain_maker(MAIN)],
         RUN_MAIN,
     )
 }
@@ -97,13 +106,9 @@ fn run_method(b: Builder) -> Made<Method> {
     )
 }
 
-// static void main(String[] args)
 fn main_method(b: Builder) -> Made<Method> {
-    b.static_method(
-        "main",
+    b.main_method(
         MAIN,
-        [b.array_type(b.text_type())],
-        b.no_type(),
         [],
         [
             b.eval(b.call_static(RUN, [b.int(0)])),
@@ -113,9 +118,4 @@ fn main_method(b: Builder) -> Made<Method> {
             b.eval(b.call_static(RUN, [b.int(4)])),
         ],
     )
-}
-
-// Main()
-fn main_maker(b: Builder) -> Made<Maker> {
-    b.maker(MAIN, [], b.plain_parent(), [], [])
 }

@@ -2,7 +2,7 @@
 //! The source is java/10_finally_return.java.
 
 use crate::builder::{Builder, Made};
-use core_tree::{BinOp, BuiltIn, Class, Maker, Method, Program};
+use core_tree::{BinOp, BuiltIn, Class, Method, Program};
 
 const MAIN: u32 = 18;
 
@@ -12,11 +12,21 @@ const NOTHING: u32 = 1;
 
 const RUN_MAIN: u32 = 2;
 
+/// What it prints, and how it ends unless it comes to its end.
+pub const PRINTS: &str = "\
+    normal finally 100\n\
+    finally 101\n\
+    finally 102\n\
+    finally 103\n\
+    finally 104\n\
+    ok\n\
+    ";
+
 pub fn program(b: Builder) -> Made<Program> {
     b.program(
         [main_class(b)],
         [leave_method(b), nothing_method(b), main_method(b)],
-        [main_maker(b)],
+        [b.plain_maker(MAIN)],
         RUN_MAIN,
     )
 }
@@ -86,13 +96,9 @@ fn nothing_method(b: Builder) -> Made<Method> {
     )
 }
 
-// static void main(String[] args)
 fn main_method(b: Builder) -> Made<Method> {
-    b.static_method(
-        "main",
+    b.main_method(
         MAIN,
-        [b.array_type(b.text_type())],
-        b.no_type(),
         [],
         [
             b.print_line(b.call_static(LEAVE, [b.int(0)])),
@@ -104,9 +110,4 @@ fn main_method(b: Builder) -> Made<Method> {
             b.print_line(b.text("ok")),
         ],
     )
-}
-
-// Main()
-fn main_maker(b: Builder) -> Made<Maker> {
-    b.maker(MAIN, [], b.plain_parent(), [], [])
 }

@@ -2,7 +2,7 @@
 //! The source is java/12_finally_throw.java.
 
 use crate::builder::{Builder, Made};
-use core_tree::{BinOp, BuiltIn, Class, Maker, Method, Program};
+use core_tree::{BinOp, BuiltIn, Class, Method, Program};
 
 const MAIN: u32 = 18;
 
@@ -12,11 +12,20 @@ const RUN_MAIN: u32 = 1;
 
 const SELECT_GET_MESSAGE: u32 = 0;
 
+/// What it prints, and how it ends unless it comes to its end.
+pub const PRINTS: &str = "\
+    finally 0 1\n\
+    finally 1 1\n\
+    finally 2 1\n\
+    finally 3 1\n\
+    finally 4 1\n\
+    ";
+
 pub fn program(b: Builder) -> Made<Program> {
     b.program(
         [main_class(b)],
         [leave_method(b), main_method(b)],
-        [main_maker(b)],
+        [b.plain_maker(MAIN)],
         RUN_MAIN,
     )
 }
@@ -73,13 +82,10 @@ fn leave_method(b: Builder) -> Made<Method> {
     )
 }
 
-// static void main(String[] args). Local 1 is way, 2 is e.
+// main. Local 1 is way, 2 is e.
 fn main_method(b: Builder) -> Made<Method> {
-    b.static_method(
-        "main",
+    b.main_method(
         MAIN,
-        [b.array_type(b.text_type())],
-        b.no_type(),
         [
             b.int_type(),
             b.class_type(BuiltIn::IllegalArgumentException.number()),
@@ -98,9 +104,4 @@ fn main_method(b: Builder) -> Made<Method> {
             )]),
         )],
     )
-}
-
-// Main()
-fn main_maker(b: Builder) -> Made<Maker> {
-    b.maker(MAIN, [], b.plain_parent(), [], [])
 }

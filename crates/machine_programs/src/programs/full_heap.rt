@@ -3,27 +3,32 @@
 //! The source is java/37_full_heap.java.
 
 use crate::builder::{Builder, Made};
-use core_tree::{BinOp, BuiltIn, Class, Maker, Method, Program};
+use core_tree::{BinOp, BuiltIn, Class, Method, Program};
 
 const MAIN: u32 = 18;
 
 const RUN_MAIN: u32 = 0;
 
+/// What it prints, and how it ends unless it comes to its end.
+pub const PRINTS: &str = "full cells\n";
+
 pub fn program(b: Builder) -> Made<Program> {
-    b.program([main_class(b)], [main_method(b)], [main_maker(b)], RUN_MAIN)
+    b.program(
+        [main_class(b)],
+        [main_method(b)],
+        [b.plain_maker(MAIN)],
+        RUN_MAIN,
+    )
 }
 
 fn main_class(b: Builder) -> Made<Class> {
     b.class("Main", BuiltIn::Object.number(), [], &[None])
 }
 
-// static void main(String[] args). Local 1 is a.
+// main. Local 1 is a.
 fn main_method(b: Builder) -> Made<Method> {
-    b.static_method(
-        "main",
+    b.main_method(
         MAIN,
-        [b.array_type(b.text_type())],
-        b.no_type(),
         [b.array_type(b.int_type())],
         [b.try_finally(
             b.block([
@@ -44,9 +49,4 @@ fn main_method(b: Builder) -> Made<Method> {
             b.block([b.print_line(b.text("made"))]),
         )],
     )
-}
-
-// Main()
-fn main_maker(b: Builder) -> Made<Maker> {
-    b.maker(MAIN, [], b.plain_parent(), [], [])
 }

@@ -2,7 +2,7 @@
 //! The source is java/39_list.java.
 
 use crate::builder::{Builder, Made};
-use core_tree::{BinOp, BuiltIn, Class, Field, Maker, Method, Program, UnOp};
+use core_tree::{BinOp, BuiltIn, Class, Maker, Method, Program, UnOp};
 
 const MAIN: u32 = 18;
 
@@ -36,6 +36,13 @@ const LIST_COUNT: u32 = 1;
 
 const NODE_NEXT: u32 = 1;
 
+/// What it prints, and how it ends unless it comes to its end.
+pub const PRINTS: &str = "\
+    -2 1 3 3 5 \n\
+    5 3 3 1 -2 \n\
+    5\n\
+    ";
+
 pub fn program(b: Builder) -> Made<Program> {
     b.program(
         [main_class(b), list_class(b), node_class(b)],
@@ -45,7 +52,7 @@ pub fn program(b: Builder) -> Made<Program> {
             list_reverse_method(b),
             list_print_method(b),
         ],
-        [node_maker(b), main_maker(b), list_maker(b)],
+        [node_maker(b), b.plain_maker(MAIN), b.plain_maker(LIST)],
         RUN_MAIN,
     )
 }
@@ -63,7 +70,10 @@ fn list_class(b: Builder) -> Made<Class> {
     b.class(
         "List",
         BuiltIn::Object.number(),
-        [list_first_field(b), list_count_field(b)],
+        [
+            b.field_named("first", LIST, b.class_type(NODE)),
+            b.field_named("count", LIST, b.int_type()),
+        ],
         &[
             None,
             Some(LIST_INSERT),
@@ -77,34 +87,18 @@ fn node_class(b: Builder) -> Made<Class> {
     b.class(
         "Node",
         BuiltIn::Object.number(),
-        [node_value_field(b), node_next_field(b)],
+        [
+            b.field_named("value", NODE, b.int_type()),
+            b.field_named("next", NODE, b.class_type(NODE)),
+        ],
         &[None, None, None, None],
     )
 }
 
-fn list_first_field(b: Builder) -> Made<Field> {
-    b.field_named("first", LIST, b.class_type(NODE))
-}
-
-fn list_count_field(b: Builder) -> Made<Field> {
-    b.field_named("count", LIST, b.int_type())
-}
-
-fn node_value_field(b: Builder) -> Made<Field> {
-    b.field_named("value", NODE, b.int_type())
-}
-
-fn node_next_field(b: Builder) -> Made<Field> {
-    b.field_named("next", NODE, b.class_type(NODE))
-}
-
-// static void main(String[] args). Local 1 is list.
+// main. Local 1 is list.
 fn main_method(b: Builder) -> Made<Method> {
-    b.static_method(
-        "main",
+    b.main_method(
         MAIN,
-        [b.array_type(b.text_type())],
-        b.no_type(),
         [b.class_type(LIST)],
         [
             b.declare(1, b.class_type(LIST), b.make(MAKE_LIST, [])),
@@ -231,14 +225,4 @@ fn node_maker(b: Builder) -> Made<Maker> {
             b.assign(b.to_field(b.this(), NODE_NEXT), b.local(1)),
         ],
     )
-}
-
-// Main()
-fn main_maker(b: Builder) -> Made<Maker> {
-    b.maker(MAIN, [], b.plain_parent(), [], [])
-}
-
-// List()
-fn list_maker(b: Builder) -> Made<Maker> {
-    b.maker(LIST, [], b.plain_parent(), [], [])
 }

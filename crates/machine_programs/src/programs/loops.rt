@@ -2,7 +2,7 @@
 //! The source is java/33_loops.java.
 
 use crate::builder::{Builder, Made};
-use core_tree::{BinOp, BuiltIn, Class, Maker, Method, Program, UpOp};
+use core_tree::{BinOp, BuiltIn, Class, Method, Program, UpOp};
 
 const MAIN: u32 = 18;
 
@@ -18,6 +18,24 @@ const NESTED: u32 = 4;
 
 const RUN_MAIN: u32 = 5;
 
+/// What it prints, and how it ends unless it comes to its end.
+pub const PRINTS: &str = "\
+    0 10\n\
+    2 6\n\
+    3 4\n\
+    1\n\
+    3\n\
+    5\n\
+    1 ? ? 3 ? end\n\
+    0123\n\
+    -\n\
+    012\n\
+    01\n\
+    -\n\
+    0\n\
+    once\n\
+    ";
+
 pub fn program(b: Builder) -> Made<Program> {
     b.program(
         [main_class(b)],
@@ -29,7 +47,7 @@ pub fn program(b: Builder) -> Made<Program> {
             nested_method(b),
             main_method(b),
         ],
-        [main_maker(b)],
+        [b.plain_maker(MAIN)],
         RUN_MAIN,
     )
 }
@@ -182,13 +200,9 @@ fn nested_method(b: Builder) -> Made<Method> {
     )
 }
 
-// static void main(String[] args)
 fn main_method(b: Builder) -> Made<Method> {
-    b.static_method(
-        "main",
+    b.main_method(
         MAIN,
-        [b.array_type(b.text_type())],
-        b.no_type(),
         [],
         [
             b.eval(b.call_static(COUNTED, [])),
@@ -202,9 +216,4 @@ fn main_method(b: Builder) -> Made<Method> {
             b.do_while(b.print_line(b.text("once")), b.boolean(false)),
         ],
     )
-}
-
-// Main()
-fn main_maker(b: Builder) -> Made<Maker> {
-    b.maker(MAIN, [], b.plain_parent(), [], [])
 }

@@ -30,6 +30,24 @@ const LOW_Y: u32 = 1;
 
 const LOW_TEXT: u32 = 2;
 
+/// What it prints, and how it ends unless it comes to its end.
+pub const PRINTS: &str = "\
+    main 3\n\
+    argument 30\n\
+    x 1\n\
+    High 30 1\n\
+    Low.hook 1 0 null\n\
+    y 50\n\
+    Low 3 50\n\
+    Low.hook 30 50 set\n\
+    30 50 set\n\
+    main 4\n\
+    x 1\n\
+    High 4 1\n\
+    High.hook 1\n\
+    4\n\
+    ";
+
 pub fn program(b: Builder) -> Made<Program> {
     b.program(
         [main_class(b), high_class(b), low_class(b)],
@@ -39,7 +57,7 @@ pub fn program(b: Builder) -> Made<Program> {
             high_hook_method(b),
             low_hook_method(b),
         ],
-        [high_maker(b), low_maker(b), main_maker(b)],
+        [high_maker(b), low_maker(b), b.plain_maker(MAIN)],
         RUN_MAIN,
     )
 }
@@ -61,7 +79,22 @@ fn low_class(b: Builder) -> Made<Class> {
     b.class(
         "Low",
         HIGH,
-        [high_x_field(b), low_y_field(b), low_text_field(b)],
+        [
+            high_x_field(b),
+            b.field_with(
+                "y",
+                LOW,
+                b.int_type(),
+                b.call_static(
+                    SHOW,
+                    [
+                        b.text("y"),
+                        b.binary(BinOp::Add, b.field(b.this(), HIGH_X), b.int(20)),
+                    ],
+                ),
+            ),
+            b.field_with("text", LOW, b.text_type(), b.text("set")),
+        ],
         &[None, Some(LOW_HOOK)],
     )
 }
@@ -73,25 +106,6 @@ fn high_x_field(b: Builder) -> Made<Field> {
         b.int_type(),
         b.call_static(SHOW, [b.text("x"), b.int(1)]),
     )
-}
-
-fn low_y_field(b: Builder) -> Made<Field> {
-    b.field_with(
-        "y",
-        LOW,
-        b.int_type(),
-        b.call_static(
-            SHOW,
-            [
-                b.text("y"),
-                b.binary(BinOp::Add, b.field(b.this(), HIGH_X), b.int(20)),
-            ],
-        ),
-    )
-}
-
-fn low_text_field(b: Builder) -> Made<Field> {
-    b.field_with("text", LOW, b.text_type(), b.text("set"))
 }
 
 // static int show(String name, int n)
@@ -109,13 +123,10 @@ fn show_method(b: Builder) -> Made<Method> {
     )
 }
 
-// static void main(String[] args). Local 1 is low, 2 is high.
+// main. Local 1 is low, 2 is high.
 fn main_method(b: Builder) -> Made<Method> {
-    b.static_method(
-        "main",
+    b.main_method(
         MAIN,
-        [b.array_type(b.text_type())],
-        b.no_type(),
         [b.class_type(LOW), b.class_type(HIGH)],
         [
             b.declare(
@@ -217,9 +228,4 @@ fn low_maker(b: Builder) -> Made<Maker> {
             b.eval(b.call(b.this(), SELECT_HOOK, [])),
         ],
     )
-}
-
-// Main()
-fn main_maker(b: Builder) -> Made<Maker> {
-    b.maker(MAIN, [], b.plain_parent(), [], [])
 }

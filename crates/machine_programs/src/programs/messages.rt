@@ -32,6 +32,18 @@ const MAKE_PLAIN: u32 = 4;
 
 const SELECT_GET_MESSAGE: u32 = 0;
 
+/// What it prints, and how it ends unless it comes to its end.
+pub const PRINTS: &str = "\
+    null\n\
+    given\n\
+    null\n\
+    name\n\
+    loud!\n\
+    louderlouder!!!\n\
+    thrownthrown!!!\n\
+    true\n\
+    ";
+
 pub fn program(b: Builder) -> Made<Program> {
     b.program(
         [
@@ -51,7 +63,7 @@ pub fn program(b: Builder) -> Made<Program> {
             named_maker(b),
             loud_maker(b),
             louder_maker(b),
-            main_maker(b),
+            b.plain_maker(MAIN),
             plain_maker(b),
         ],
         RUN_MAIN,
@@ -110,13 +122,10 @@ fn tell_method(b: Builder) -> Made<Method> {
     )
 }
 
-// static void main(String[] args). Local 1 is e, 2 is none.
+// main. Local 1 is e, 2 is none.
 fn main_method(b: Builder) -> Made<Method> {
-    b.static_method(
-        "main",
+    b.main_method(
         MAIN,
-        [b.array_type(b.text_type())],
-        b.no_type(),
         [b.class_type(NAMED), b.text_type()],
         [
             b.eval(b.call_static(TELL, [b.make_built(BuiltIn::Throwable)])),
@@ -205,11 +214,6 @@ fn louder_maker(b: Builder) -> Made<Maker> {
         [],
         [],
     )
-}
-
-// Main()
-fn main_maker(b: Builder) -> Made<Maker> {
-    b.maker(MAIN, [], b.plain_parent(), [], [])
 }
 
 // Plain()

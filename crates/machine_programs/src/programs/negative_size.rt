@@ -2,7 +2,7 @@
 //! The source is java/36_negative_size.java.
 
 use crate::builder::{Builder, Made};
-use core_tree::{BuiltIn, Class, Maker, Method, Program, UnOp};
+use core_tree::{BuiltIn, Class, Method, Program, UnOp};
 
 const MAIN: u32 = 18;
 
@@ -12,11 +12,20 @@ const MAKE: u32 = 1;
 
 const RUN_MAIN: u32 = 2;
 
+/// What it prints, and how it ends unless it comes to its end.
+pub const PRINTS: &str = "\
+    size 3\n\
+    size 0\n\
+    size negative\n\
+    size negative\n\
+    size uncaught NegativeArraySizeException\n\
+    ";
+
 pub fn program(b: Builder) -> Made<Program> {
     b.program(
         [main_class(b)],
         [size_method(b), make_method(b), main_method(b)],
-        [main_maker(b)],
+        [b.plain_maker(MAIN)],
         RUN_MAIN,
     )
 }
@@ -66,13 +75,10 @@ fn make_method(b: Builder) -> Made<Method> {
     )
 }
 
-// static void main(String[] args). Local 1 is last.
+// main. Local 1 is last.
 fn main_method(b: Builder) -> Made<Method> {
-    b.static_method(
-        "main",
+    b.main_method(
         MAIN,
-        [b.array_type(b.text_type())],
-        b.no_type(),
         [b.array_type(b.class_type(BuiltIn::Object.number()))],
         [
             b.eval(b.call_static(MAKE, [b.int(3)])),
@@ -90,9 +96,4 @@ fn main_method(b: Builder) -> Made<Method> {
             b.print_line(b.length(b.local(1))),
         ],
     )
-}
-
-// Main()
-fn main_maker(b: Builder) -> Made<Maker> {
-    b.maker(MAIN, [], b.plain_parent(), [], [])
 }

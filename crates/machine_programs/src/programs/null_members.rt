@@ -2,7 +2,7 @@
 //! The source is java/21_null_members.java.
 
 use crate::builder::{Builder, Made};
-use core_tree::{BinOp, BuiltIn, Class, Field, Maker, Method, Program};
+use core_tree::{BinOp, BuiltIn, Class, Method, Program};
 
 const MAIN: u32 = 18;
 
@@ -26,11 +26,34 @@ const MAIN_NUMBERS: u32 = 1;
 
 const MAIN_TEXT: u32 = 2;
 
+/// What it prints, and how it ends unless it comes to its end.
+pub const PRINTS: &str = "\
+    null\n\
+    null\n\
+    null\n\
+    null\n\
+    null\n\
+    null\n\
+    null\n\
+    null\n\
+    0\n\
+    0\n\
+    4\n\
+    3\n\
+    2\n\
+    1\n\
+    thrown\n\
+    0\n\
+    null\n\
+    false\n\
+    true\n\
+    ";
+
 pub fn program(b: Builder) -> Made<Program> {
     b.program(
         [main_class(b)],
         [get_method(b), use_method(b), run_method(b), main_method(b)],
-        [main_maker(b)],
+        [b.plain_maker(MAIN)],
         RUN_MAIN,
     )
 }
@@ -39,21 +62,13 @@ fn main_class(b: Builder) -> Made<Class> {
     b.class(
         "Main",
         BuiltIn::Object.number(),
-        [main_n_field(b), main_numbers_field(b), main_text_field(b)],
+        [
+            b.field_named("n", MAIN, b.int_type()),
+            b.field_named("numbers", MAIN, b.array_type(b.int_type())),
+            b.field_named("text", MAIN, b.text_type()),
+        ],
         &[None, Some(GET)],
     )
-}
-
-fn main_n_field(b: Builder) -> Made<Field> {
-    b.field_named("n", MAIN, b.int_type())
-}
-
-fn main_numbers_field(b: Builder) -> Made<Field> {
-    b.field_named("numbers", MAIN, b.array_type(b.int_type()))
-}
-
-fn main_text_field(b: Builder) -> Made<Field> {
-    b.field_named("text", MAIN, b.text_type())
 }
 
 // int get()
@@ -165,13 +180,10 @@ fn run_method(b: Builder) -> Made<Method> {
     )
 }
 
-// static void main(String[] args). Local 1 is way, 2 is m, 3 is way.
+// main. Local 1 is way, 2 is m, 3 is way.
 fn main_method(b: Builder) -> Made<Method> {
-    b.static_method(
-        "main",
+    b.main_method(
         MAIN,
-        [b.array_type(b.text_type())],
-        b.no_type(),
         [b.int_type(), b.class_type(MAIN), b.int_type()],
         [
             b.for_loop(
@@ -207,9 +219,4 @@ fn main_method(b: Builder) -> Made<Method> {
             b.print_line(b.text_equals(b.text("x"), b.text("x"))),
         ],
     )
-}
-
-// Main()
-fn main_maker(b: Builder) -> Made<Maker> {
-    b.maker(MAIN, [], b.plain_parent(), [], [])
 }

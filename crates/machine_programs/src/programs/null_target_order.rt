@@ -2,7 +2,7 @@
 //! The source is java/04_null_target_order.java.
 
 use crate::builder::{Builder, Made};
-use core_tree::{BinOp, BuiltIn, Class, Field, Maker, Method, Program};
+use core_tree::{BinOp, BuiltIn, Class, Method, Program};
 
 const MAIN: u32 = 18;
 
@@ -28,6 +28,16 @@ const SELECT_PLUS: u32 = 1;
 
 const BOX_N: u32 = 0;
 
+/// What it prints, and how it ends unless it comes to its end.
+pub const PRINTS: &str = "\
+    bv 7\n\
+    bv null\n\
+    bvv43\n\
+    bvv null\n\
+    bv41\n\
+    b null\n\
+    ";
+
 pub fn program(b: Builder) -> Made<Program> {
     b.program(
         [main_class(b), box_class(b)],
@@ -40,7 +50,7 @@ pub fn program(b: Builder) -> Made<Program> {
             main_method(b),
             box_plus_method(b),
         ],
-        [main_maker(b), box_maker(b)],
+        [b.plain_maker(MAIN), b.plain_maker(BOX)],
         RUN_MAIN,
     )
 }
@@ -53,13 +63,9 @@ fn box_class(b: Builder) -> Made<Class> {
     b.class(
         "Box",
         BuiltIn::Object.number(),
-        [box_n_field(b)],
+        [b.field_with("n", BOX, b.int_type(), b.int(40))],
         &[None, Some(BOX_PLUS)],
     )
-}
-
-fn box_n_field(b: Builder) -> Made<Field> {
-    b.field_with("n", BOX, b.int_type(), b.int(40))
 }
 
 // static Box box(Box b)
@@ -160,13 +166,9 @@ fn read_method(b: Builder) -> Made<Method> {
     )
 }
 
-// static void main(String[] args)
 fn main_method(b: Builder) -> Made<Method> {
-    b.static_method(
-        "main",
+    b.main_method(
         MAIN,
-        [b.array_type(b.text_type())],
-        b.no_type(),
         [],
         [
             b.eval(b.call_static(STORE, [b.make(MAKE_BOX, [])])),
@@ -193,14 +195,4 @@ fn box_plus_method(b: Builder) -> Made<Method> {
             b.local(1),
         ))],
     )
-}
-
-// Main()
-fn main_maker(b: Builder) -> Made<Maker> {
-    b.maker(MAIN, [], b.plain_parent(), [], [])
-}
-
-// Box()
-fn box_maker(b: Builder) -> Made<Maker> {
-    b.maker(BOX, [], b.plain_parent(), [], [])
 }

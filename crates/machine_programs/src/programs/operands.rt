@@ -2,7 +2,7 @@
 //! The source is java/01_operands.java.
 
 use crate::builder::{Builder, Made};
-use core_tree::{BinOp, BuiltIn, Class, Maker, Method, Program};
+use core_tree::{BinOp, BuiltIn, Class, Method, Program};
 
 const MAIN: u32 = 18;
 
@@ -12,11 +12,35 @@ const THREE: u32 = 1;
 
 const RUN_MAIN: u32 = 2;
 
+/// What it prints, and how it ends unless it comes to its end.
+pub const PRINTS: &str = "\
+    7\n\
+    2\n\
+    3\n\
+    1\n\
+    1\n\
+    2\n\
+    3\n\
+    123\n\
+    1\n\
+    0\n\
+    4\n\
+    3\n\
+    false\n\
+    5\n\
+    6\n\
+    56\n\
+    8\n\
+    9\n\
+    10\n\
+    7\n\
+    ";
+
 pub fn program(b: Builder) -> Made<Program> {
     b.program(
         [main_class(b)],
         [show_method(b), three_method(b), main_method(b)],
-        [main_maker(b)],
+        [b.plain_maker(MAIN)],
         RUN_MAIN,
     )
 }
@@ -57,13 +81,9 @@ fn three_method(b: Builder) -> Made<Method> {
     )
 }
 
-// static void main(String[] args)
 fn main_method(b: Builder) -> Made<Method> {
-    b.static_method(
-        "main",
+    b.main_method(
         MAIN,
-        [b.array_type(b.text_type())],
-        b.no_type(),
         [],
         [
             b.print_line(b.binary(
@@ -114,9 +134,4 @@ fn main_method(b: Builder) -> Made<Method> {
             )),
         ],
     )
-}
-
-// Main()
-fn main_maker(b: Builder) -> Made<Maker> {
-    b.maker(MAIN, [], b.plain_parent(), [], [])
 }

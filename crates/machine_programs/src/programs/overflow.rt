@@ -2,7 +2,7 @@
 //! The source is java/19_overflow.java.
 
 use crate::builder::{Builder, Made};
-use core_tree::{BinOp, BuiltIn, Class, Maker, Method, Program, UnOp};
+use core_tree::{BinOp, BuiltIn, Class, Method, Program, UnOp};
 
 const MAIN: u32 = 18;
 
@@ -10,11 +10,25 @@ const ARITHMETIC: u32 = 0;
 
 const RUN_MAIN: u32 = 1;
 
+/// What it prints, and how it ends unless it comes to its end.
+pub const PRINTS: &str = "\
+    -2147483648 2147483646 2147483647 -2147483647 1\n\
+    -2147483647 2147483647 -2147483648 -2147483648 1\n\
+    0 0 0 -2147483648 -2147483648\n\
+    -2 0 1 -2147483647 2147483647\n\
+    131072 0 0 -65536 65536\n\
+    1111111110 -864197532 -67153019 -123456789 987654321\n\
+    -2147483648\n\
+    2147483647\n\
+    -2147483648\n\
+    -2147483648\n\
+    ";
+
 pub fn program(b: Builder) -> Made<Program> {
     b.program(
         [main_class(b)],
         [arithmetic_method(b), main_method(b)],
-        [main_maker(b)],
+        [b.plain_maker(MAIN)],
         RUN_MAIN,
     )
 }
@@ -47,13 +61,10 @@ fn arithmetic_method(b: Builder) -> Made<Method> {
     )
 }
 
-// static void main(String[] args). Local 1 is x.
+// main. Local 1 is x.
 fn main_method(b: Builder) -> Made<Method> {
-    b.static_method(
-        "main",
+    b.main_method(
         MAIN,
-        [b.array_type(b.text_type())],
-        b.no_type(),
         [b.int_type()],
         [
             b.eval(b.call_static(ARITHMETIC, [b.int(i32::MAX), b.int(1)])),
@@ -77,9 +88,4 @@ fn main_method(b: Builder) -> Made<Method> {
             b.print_line(b.binary(BinOp::Add, b.int(i32::MAX), b.int(1))),
         ],
     )
-}
-
-// Main()
-fn main_maker(b: Builder) -> Made<Maker> {
-    b.maker(MAIN, [], b.plain_parent(), [], [])
 }

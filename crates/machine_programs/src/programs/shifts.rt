@@ -2,7 +2,7 @@
 //! The source is java/18_shifts.java.
 
 use crate::builder::{Builder, Made};
-use core_tree::{BinOp, BuiltIn, Class, Maker, Method, Program, UnOp};
+use core_tree::{BinOp, BuiltIn, Class, Method, Program, UnOp};
 
 const MAIN: u32 = 18;
 
@@ -10,11 +10,28 @@ const SHIFT: u32 = 0;
 
 const RUN_MAIN: u32 = 1;
 
+/// What it prints, and how it ends unless it comes to its end.
+pub const PRINTS: &str = "\
+    5 5 5\n\
+    10 2 2\n\
+    -10 -3 2147483645\n\
+    -2147483648 -1 1\n\
+    -5 -5 -5\n\
+    -10 -3 2147483645\n\
+    -2147483648 -1 1\n\
+    -2147483648 0 0\n\
+    2 0 0\n\
+    -2147483648 0 0\n\
+    0 -1 1\n\
+    2147483647 2147483647 2147483647\n\
+    -1073741824 1 1\n\
+    ";
+
 pub fn program(b: Builder) -> Made<Program> {
     b.program(
         [main_class(b)],
         [shift_method(b), main_method(b)],
-        [main_maker(b)],
+        [b.plain_maker(MAIN)],
         RUN_MAIN,
     )
 }
@@ -43,13 +60,9 @@ fn shift_method(b: Builder) -> Made<Method> {
     )
 }
 
-// static void main(String[] args)
 fn main_method(b: Builder) -> Made<Method> {
-    b.static_method(
-        "main",
+    b.main_method(
         MAIN,
-        [b.array_type(b.text_type())],
-        b.no_type(),
         [],
         [
             b.eval(b.call_static(SHIFT, [b.int(5), b.int(0)])),
@@ -73,9 +86,4 @@ fn main_method(b: Builder) -> Made<Method> {
             b.eval(b.call_static(SHIFT, [b.int(i32::MAX), b.int(30)])),
         ],
     )
-}
-
-// Main()
-fn main_maker(b: Builder) -> Made<Maker> {
-    b.maker(MAIN, [], b.plain_parent(), [], [])
 }

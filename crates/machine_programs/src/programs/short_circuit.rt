@@ -2,7 +2,7 @@
 //! The source is java/02_short_circuit.java.
 
 use crate::builder::{Builder, Made};
-use core_tree::{BinOp, BuiltIn, Class, Maker, Method, Program, UnOp};
+use core_tree::{BinOp, BuiltIn, Class, Method, Program, UnOp};
 
 const MAIN: u32 = 18;
 
@@ -12,11 +12,25 @@ const COUNT: u32 = 1;
 
 const RUN_MAIN: u32 = 2;
 
+/// What it prints, and how it ends unless it comes to its end.
+pub const PRINTS: &str = "\
+    afalse\n\
+    cdtrue\n\
+    etrue\n\
+    ghfalse\n\
+    ijfalse\n\
+    kltrue\n\
+    mnfalse\n\
+    op1\n\
+    rt2\n\
+    uwtrue\n\
+    ";
+
 pub fn program(b: Builder) -> Made<Program> {
     b.program(
         [main_class(b)],
         [say_method(b), count_method(b), main_method(b)],
-        [main_maker(b)],
+        [b.plain_maker(MAIN)],
         RUN_MAIN,
     )
 }
@@ -49,13 +63,9 @@ fn count_method(b: Builder) -> Made<Method> {
     )
 }
 
-// static void main(String[] args)
 fn main_method(b: Builder) -> Made<Method> {
-    b.static_method(
-        "main",
+    b.main_method(
         MAIN,
-        [b.array_type(b.text_type())],
-        b.no_type(),
         [],
         [
             b.print_line(b.and(
@@ -111,9 +121,4 @@ fn main_method(b: Builder) -> Made<Method> {
             )),
         ],
     )
-}
-
-// Main()
-fn main_maker(b: Builder) -> Made<Maker> {
-    b.maker(MAIN, [], b.plain_parent(), [], [])
 }

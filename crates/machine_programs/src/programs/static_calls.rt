@@ -2,7 +2,7 @@
 //! The source is java/29_static_calls.java.
 
 use crate::builder::{Builder, Made};
-use core_tree::{BinOp, BuiltIn, Class, Maker, Method, Program, UpOp};
+use core_tree::{BinOp, BuiltIn, Class, Method, Program, UpOp};
 
 const MAIN: u32 = 18;
 
@@ -18,6 +18,15 @@ const OTHER_ODD: u32 = 3;
 
 const OTHER_POWER: u32 = 4;
 
+/// What it prints, and how it ends unless it comes to its end.
+pub const PRINTS: &str = "\
+    55\n\
+    true false true\n\
+    1024 1\n\
+    42w6\n\
+    2147483646\n\
+    ";
+
 pub fn program(b: Builder) -> Made<Program> {
     b.program(
         [main_class(b), other_class(b)],
@@ -28,7 +37,7 @@ pub fn program(b: Builder) -> Made<Program> {
             other_odd_method(b),
             other_power_method(b),
         ],
-        [main_maker(b), other_maker(b)],
+        [b.plain_maker(MAIN), b.plain_maker(OTHER)],
         RUN_MAIN,
     )
 }
@@ -78,13 +87,9 @@ fn even_method(b: Builder) -> Made<Method> {
     )
 }
 
-// static void main(String[] args)
 fn main_method(b: Builder) -> Made<Method> {
-    b.static_method(
-        "main",
+    b.main_method(
         MAIN,
-        [b.array_type(b.text_type())],
-        b.no_type(),
         [],
         [
             b.print_line(b.call_static(FIBONACCI, [b.int(10)])),
@@ -144,14 +149,4 @@ fn other_power_method(b: Builder) -> Made<Method> {
             b.answer(b.local(2)),
         ],
     )
-}
-
-// Main()
-fn main_maker(b: Builder) -> Made<Maker> {
-    b.maker(MAIN, [], b.plain_parent(), [], [])
-}
-
-// Other()
-fn other_maker(b: Builder) -> Made<Maker> {
-    b.maker(OTHER, [], b.plain_parent(), [], [])
 }

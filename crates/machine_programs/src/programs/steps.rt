@@ -2,27 +2,34 @@
 //! The source is java/34_steps.java.
 
 use crate::builder::{Builder, Made};
-use core_tree::{BinOp, BuiltIn, Class, Maker, Method, Program};
+use core_tree::{BinOp, BuiltIn, Class, Method, Program};
 
 const MAIN: u32 = 18;
 
 const RUN_MAIN: u32 = 0;
 
+/// What it prints, and how it ends unless it comes to its end.
+pub const PRINTS: &str = "\
+    3\n\
+    steps spent\n\
+    ";
+
 pub fn program(b: Builder) -> Made<Program> {
-    b.program([main_class(b)], [main_method(b)], [main_maker(b)], RUN_MAIN)
+    b.program(
+        [main_class(b)],
+        [main_method(b)],
+        [b.plain_maker(MAIN)],
+        RUN_MAIN,
+    )
 }
 
 fn main_class(b: Builder) -> Made<Class> {
     b.class("Main", BuiltIn::Object.number(), [], &[None])
 }
 
-// static void main(String[] args)
 fn main_method(b: Builder) -> Made<Method> {
-    b.static_method(
-        "main",
+    b.main_method(
         MAIN,
-        [b.array_type(b.text_type())],
-        b.no_type(),
         [],
         [
             b.print_line(b.binary(BinOp::Add, b.int(1), b.int(2))),
@@ -32,9 +39,4 @@ fn main_method(b: Builder) -> Made<Method> {
             ),
         ],
     )
-}
-
-// Main()
-fn main_maker(b: Builder) -> Made<Maker> {
-    b.maker(MAIN, [], b.plain_parent(), [], [])
 }

@@ -2,7 +2,7 @@
 //! The source is java/22_throw_null.java.
 
 use crate::builder::{Builder, Made};
-use core_tree::{BinOp, BuiltIn, Class, Maker, Method, Program};
+use core_tree::{BinOp, BuiltIn, Class, Method, Program};
 
 const MAIN: u32 = 18;
 
@@ -10,11 +10,17 @@ const FAIL: u32 = 0;
 
 const RUN_MAIN: u32 = 1;
 
+/// What it prints, and how it ends unless it comes to its end.
+pub const PRINTS: &str = "\
+    taken false\n\
+    uncaught NullPointerException\n\
+    ";
+
 pub fn program(b: Builder) -> Made<Program> {
     b.program(
         [main_class(b)],
         [fail_method(b), main_method(b)],
-        [main_maker(b)],
+        [b.plain_maker(MAIN)],
         RUN_MAIN,
     )
 }
@@ -38,13 +44,10 @@ fn fail_method(b: Builder) -> Made<Method> {
     )
 }
 
-// static void main(String[] args). Local 1 is e.
+// main. Local 1 is e.
 fn main_method(b: Builder) -> Made<Method> {
-    b.static_method(
-        "main",
+    b.main_method(
         MAIN,
-        [b.array_type(b.text_type())],
-        b.no_type(),
         [b.class_type(BuiltIn::NullPointerException.number())],
         [
             b.try_catch(
@@ -61,9 +64,4 @@ fn main_method(b: Builder) -> Made<Method> {
             b.eval(b.call_static(FAIL, [])),
         ],
     )
-}
-
-// Main()
-fn main_maker(b: Builder) -> Made<Maker> {
-    b.maker(MAIN, [], b.plain_parent(), [], [])
 }

@@ -2,7 +2,7 @@
 //! The source is java/31_uncaught_message.java.
 
 use crate::builder::{Builder, Made};
-use core_tree::{BinOp, BuiltIn, Class, Field, Maker, Method, Program};
+use core_tree::{BinOp, BuiltIn, Class, Maker, Method, Program};
 
 const MAIN: u32 = 18;
 
@@ -16,11 +16,18 @@ const MAKE_TROUBLE: u32 = 0;
 
 const TROUBLE_NUMBER: u32 = 1;
 
+/// What it prints, and how it ends unless it comes to its end.
+pub const PRINTS: &str = "\
+    2\n\
+    1\n\
+    uncaught Trouble: deep 7truenull\n\
+    ";
+
 pub fn program(b: Builder) -> Made<Program> {
     b.program(
         [main_class(b), trouble_class(b)],
         [deep_method(b), main_method(b)],
-        [trouble_maker(b), main_maker(b)],
+        [trouble_maker(b), b.plain_maker(MAIN)],
         RUN_MAIN,
     )
 }
@@ -33,13 +40,12 @@ fn trouble_class(b: Builder) -> Made<Class> {
     b.class(
         "Trouble",
         BuiltIn::RuntimeException.number(),
-        [b.message_field(), trouble_number_field(b)],
+        [
+            b.message_field(),
+            b.field_named("number", TROUBLE, b.int_type()),
+        ],
         &[None],
     )
-}
-
-fn trouble_number_field(b: Builder) -> Made<Field> {
-    b.field_named("number", TROUBLE, b.int_type())
 }
 
 // static void deep(int n)
@@ -61,13 +67,9 @@ fn deep_method(b: Builder) -> Made<Method> {
     )
 }
 
-// static void main(String[] args)
 fn main_method(b: Builder) -> Made<Method> {
-    b.static_method(
-        "main",
+    b.main_method(
         MAIN,
-        [b.array_type(b.text_type())],
-        b.no_type(),
         [],
         [
             b.eval(b.call_static(DEEP, [b.int(2)])),
@@ -88,9 +90,4 @@ fn trouble_maker(b: Builder) -> Made<Maker> {
         [],
         [b.assign(b.to_field(b.this(), TROUBLE_NUMBER), b.local(1))],
     )
-}
-
-// Main()
-fn main_maker(b: Builder) -> Made<Maker> {
-    b.maker(MAIN, [], b.plain_parent(), [], [])
 }

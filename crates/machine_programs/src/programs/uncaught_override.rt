@@ -16,11 +16,17 @@ const MAKE_MASKED: u32 = 0;
 
 const SELECT_GET_MESSAGE: u32 = 0;
 
+/// What it prints, and how it ends unless it comes to its end.
+pub const PRINTS: &str = "\
+    masked\n\
+    uncaught Masked: given\n\
+    ";
+
 pub fn program(b: Builder) -> Made<Program> {
     b.program(
         [main_class(b), masked_class(b)],
         [main_method(b), masked_get_message_method(b)],
-        [masked_maker(b), main_maker(b)],
+        [masked_maker(b), b.plain_maker(MAIN)],
         RUN_MAIN,
     )
 }
@@ -38,13 +44,9 @@ fn masked_class(b: Builder) -> Made<Class> {
     )
 }
 
-// static void main(String[] args)
 fn main_method(b: Builder) -> Made<Method> {
-    b.static_method(
-        "main",
+    b.main_method(
         MAIN,
-        [b.array_type(b.text_type())],
-        b.no_type(),
         [],
         [
             b.print_line(b.call(
@@ -78,9 +80,4 @@ fn masked_maker(b: Builder) -> Made<Maker> {
         [],
         [],
     )
-}
-
-// Main()
-fn main_maker(b: Builder) -> Made<Maker> {
-    b.maker(MAIN, [], b.plain_parent(), [], [])
 }

@@ -12,11 +12,18 @@ const RUN_MAIN: u32 = 0;
 
 const MAKE_PLAIN: u32 = 0;
 
+/// What it prints, and how it ends unless it comes to its end.
+pub const PRINTS: &str = "\
+    before\n\
+    made\n\
+    uncaught Plain\n\
+    ";
+
 pub fn program(b: Builder) -> Made<Program> {
     b.program(
         [main_class(b), plain_class(b)],
         [main_method(b)],
-        [plain_maker(b), main_maker(b)],
+        [plain_maker(b), b.plain_maker(MAIN)],
         RUN_MAIN,
     )
 }
@@ -34,13 +41,9 @@ fn plain_class(b: Builder) -> Made<Class> {
     )
 }
 
-// static void main(String[] args)
 fn main_method(b: Builder) -> Made<Method> {
-    b.static_method(
-        "main",
+    b.main_method(
         MAIN,
-        [b.array_type(b.text_type())],
-        b.no_type(),
         [],
         [
             b.print_line(b.text("before")),
@@ -58,9 +61,4 @@ fn plain_maker(b: Builder) -> Made<Maker> {
         [],
         [b.print_line(b.text("made"))],
     )
-}
-
-// Main()
-fn main_maker(b: Builder) -> Made<Maker> {
-    b.maker(MAIN, [], b.plain_parent(), [], [])
 }

@@ -2,7 +2,7 @@
 //! The source is java/14_uncaught_through_finally.java.
 
 use crate::builder::{Builder, Made};
-use core_tree::{BuiltIn, Class, Maker, Method, Program};
+use core_tree::{BuiltIn, Class, Method, Program};
 
 const MAIN: u32 = 18;
 
@@ -10,11 +10,19 @@ const INNER: u32 = 0;
 
 const RUN_MAIN: u32 = 1;
 
+/// What it prints, and how it ends unless it comes to its end.
+pub const PRINTS: &str = "\
+    inner\n\
+    inner finally\n\
+    outer finally\n\
+    uncaught IllegalArgumentException: of inner\n\
+    ";
+
 pub fn program(b: Builder) -> Made<Program> {
     b.program(
         [main_class(b)],
         [inner_method(b), main_method(b)],
-        [main_maker(b)],
+        [b.plain_maker(MAIN)],
         RUN_MAIN,
     )
 }
@@ -52,13 +60,9 @@ fn inner_method(b: Builder) -> Made<Method> {
     )
 }
 
-// static void main(String[] args)
 fn main_method(b: Builder) -> Made<Method> {
-    b.static_method(
-        "main",
+    b.main_method(
         MAIN,
-        [b.array_type(b.text_type())],
-        b.no_type(),
         [],
         [
             b.try_finally(
@@ -71,9 +75,4 @@ fn main_method(b: Builder) -> Made<Method> {
             b.print_line(b.text("not reached")),
         ],
     )
-}
-
-// Main()
-fn main_maker(b: Builder) -> Made<Maker> {
-    b.maker(MAIN, [], b.plain_parent(), [], [])
 }

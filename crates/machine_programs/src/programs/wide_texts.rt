@@ -2,27 +2,45 @@
 //! The source is java/23_wide_texts.java.
 
 use crate::builder::{Builder, Made};
-use core_tree::{BuiltIn, Class, Maker, Method, Program};
+use core_tree::{BuiltIn, Class, Method, Program};
 
 const MAIN: u32 = 18;
 
 const RUN_MAIN: u32 = 0;
 
+/// What it prints, and how it ends unless it comes to its end.
+pub const PRINTS: &str = "\
+    2\n\
+    3\n\
+    \u{e9}\u{1f600}\n\
+    4\n\
+    true\n\
+    false\n\
+    true\n\
+    0\n\
+    1\n\
+    3\n\
+    a\n\
+    b\n\
+    ";
+
 pub fn program(b: Builder) -> Made<Program> {
-    b.program([main_class(b)], [main_method(b)], [main_maker(b)], RUN_MAIN)
+    b.program(
+        [main_class(b)],
+        [main_method(b)],
+        [b.plain_maker(MAIN)],
+        RUN_MAIN,
+    )
 }
 
 fn main_class(b: Builder) -> Made<Class> {
     b.class("Main", BuiltIn::Object.number(), [], &[None])
 }
 
-// static void main(String[] args). Local 1 is wide.
+// main. Local 1 is wide.
 fn main_method(b: Builder) -> Made<Method> {
-    b.static_method(
-        "main",
+    b.main_method(
         MAIN,
-        [b.array_type(b.text_type())],
-        b.no_type(),
         [b.text_type()],
         [
             b.declare(1, b.text_type(), b.text("\u{1f600}")),
@@ -42,9 +60,4 @@ fn main_method(b: Builder) -> Made<Method> {
             b.print_line(b.text("a\nb")),
         ],
     )
-}
-
-// Main()
-fn main_maker(b: Builder) -> Made<Maker> {
-    b.maker(MAIN, [], b.plain_parent(), [], [])
 }

@@ -4,6 +4,7 @@ class Main {
         try {
             return deepest(depth + 1);
         } catch (StackOverflowError e) {
+            System.out.println(e.getMessage());
             return depth;
         }
     }
@@ -14,11 +15,6 @@ class Main {
 
     public static void main(String[] args) {
         System.out.println(deepest(2));
-        try {
-            endless();
-        } catch (StackOverflowError e) {
-            System.out.println(e.getMessage());
-        }
         endless();
     }
 }

@@ -1,15 +1,10 @@
 //! Short functions that make the parts of a resolved program. Each takes its own parts as they were made, and answers want
 //! of memory where one of them does, so that a program reads as its source does.
 
-ghost use Rattle.std.specs.Prelude.{◌<◌, ◌^◌, IsTrue};
-ghost use Rattle.core_tree.specs.Text.{code_units};
-
+use crate::built_in::is_short;
 use core_tree::{OutOfMemory, Text, Ty};
 use sqlite_items::{Boxed, Items};
 use std::alloc::Global;
-
-/// A text of the tests has at most so many code units.
-const MOST_UNITS: u32 = 1000;
 
 /// A part of a program, or want of memory.
 pub type Made<T> = Result<T, OutOfMemory>;
@@ -79,18 +74,4 @@ impl Builder {
     pub fn no_type(self) -> Made<Ty> {
         Ok(Ty::Void)
     }
-}
-
-// Whether a text has at most `MOST_UNITS` code units.
-fn is_short(characters: &[char]) -> bool
-    ensures { IsTrue result → code_units characters.now < 2 ^ 32 }
-{
-    let mut units = 0;
-    for character in characters {
-        units += if *character < '\u{10000}' { 1 } else { 2 };
-        if units > MOST_UNITS {
-            return false;
-        }
-    }
-    true
 }

@@ -1,52 +1,14 @@
 //! Classes, their members, and programs, which begin with the built-in classes.
 
 use crate::builder::{Builder, Made};
-use core_tree::{BuiltIn, Class, Expr, Field, Maker, Method, Parent, Program, Stmt, Ty};
+use crate::built_in::{built_in_classes, message_field};
+use core_tree::{Class, Expr, Field, Maker, Method, Parent, Program, Stmt, Ty};
 use sqlite_items::Items;
 
-/// The built-in classes below Object by number, each with its superclass.
-const THROWABLES: [(&str, BuiltIn); 17] = [
-    ("Throwable", BuiltIn::Object),
-    ("Exception", BuiltIn::Throwable),
-    ("RuntimeException", BuiltIn::Exception),
-    ("Error", BuiltIn::Throwable),
-    ("ArithmeticException", BuiltIn::RuntimeException),
-    ("NullPointerException", BuiltIn::RuntimeException),
-    ("NegativeArraySizeException", BuiltIn::RuntimeException),
-    ("FallbackError", BuiltIn::Error),
-    ("ClassCastException", BuiltIn::RuntimeException),
-    ("ArrayStoreException", BuiltIn::RuntimeException),
-    ("IndexOutOfBoundsException", BuiltIn::RuntimeException),
-    (
-        "ArrayIndexOutOfBoundsException",
-        BuiltIn::IndexOutOfBoundsException,
-    ),
-    ("IllegalArgumentException", BuiltIn::RuntimeException),
-    ("IllegalStateException", BuiltIn::RuntimeException),
-    ("UnsupportedOperationException", BuiltIn::RuntimeException),
-    ("StackOverflowError", BuiltIn::Error),
-    ("RequiresError", BuiltIn::Error),
-];
-
 impl Builder {
-    /// The built-in classes by number.
-    fn built_in_classes(self) -> Made<Items<Class>> {
-        let mut classes = Items::new(self.alloc);
-        classes.push(Class {
-            name: self.characters("Object")?,
-            parent: None,
-            fields: Items::new(self.alloc),
-            chosen: Items::new(self.alloc),
-        })?;
-        for (name, parent) in THROWABLES {
-            classes.push(self.class(name, parent.number(), [self.message_field()], &[])?)?;
-        }
-        Ok(classes)
-    }
-
-    /// The field of a Throwable.
+    /// The field of a Throwable, which each class below it inherits.
     pub fn message_field(self) -> Made<Field> {
-        self.field_named("#message", BuiltIn::Throwable.number(), self.text_type())
+        message_field(self.alloc)
     }
 
     /// A field without an initialiser, which this class declares.
@@ -191,7 +153,7 @@ impl Builder {
         makers: [Made<Maker>; K],
         main: u32,
     ) -> Made<Program> {
-        let mut classes = self.built_in_classes()?;
+        let mut classes = built_in_classes(self.alloc)?;
         classes.append(self.list(of_file)?)?;
         Ok(Program {
             classes,

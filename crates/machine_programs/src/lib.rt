@@ -9,6 +9,8 @@
 #[cfg(test)]
 mod builder;
 #[cfg(test)]
+mod built_in;
+#[cfg(test)]
 mod check;
 #[cfg(test)]
 mod declarations;
@@ -18,5 +20,7 @@ mod expressions;
 mod programs;
 #[cfg(test)]
 mod statements;
+#[cfg(test)]
+mod sum_program;
 #[cfg(test)]
 mod tests;

@@ -16,8 +16,8 @@ const SELECT_GET_MESSAGE: u32 = 0;
 
 /// What it prints, and how it ends unless it comes to its end.
 pub const PRINTS: &str = "\
-    65536\n\
     null\n\
+    65536\n\
     uncaught StackOverflowError\n\
     ";
 
@@ -50,7 +50,10 @@ fn deepest_method(b: Builder) -> Made<Method> {
             [b.catch(
                 BuiltIn::StackOverflowError.number(),
                 1,
-                b.block([b.answer(b.local(0))]),
+                b.block([
+                    b.print_line(b.call(b.local(1), SELECT_GET_MESSAGE, [])),
+                    b.answer(b.local(0)),
+                ]),
             )],
         )],
     )
@@ -68,21 +71,12 @@ fn endless_method(b: Builder) -> Made<Method> {
     )
 }
 
-// main. Local 1 is e.
 fn main_method(b: Builder) -> Made<Method> {
     b.main_method(
         MAIN,
-        [b.class_type(BuiltIn::StackOverflowError.number())],
+        [],
         [
             b.print_line(b.call_static(DEEPEST, [b.int(2)])),
-            b.try_catch(
-                b.block([b.eval(b.call_static(ENDLESS, []))]),
-                [b.catch(
-                    BuiltIn::StackOverflowError.number(),
-                    1,
-                    b.block([b.print_line(b.call(b.local(1), SELECT_GET_MESSAGE, []))]),
-                )],
-            ),
             b.eval(b.call_static(ENDLESS, [])),
         ],
     )

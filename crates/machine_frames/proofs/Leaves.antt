@@ -1,5 +1,5 @@
 -- What reads, writes and prints do, by cases on what is there.
-use Rattle.std.proofs.Common.{◌≡◌, ◌<◌, ◌≤◌, ℕ, Bool, true, false, List, [], ◌∷◌, length, Option, Some, None, refl, sym, ap, ◌∙◌, arith, get_or, option_map, slice_get, slice_set}
+use Rattle.std.proofs.Common.{◌≡◌, ◌&&◌, IsTrue, ◌<◌, ◌≤◌, ℕ, Bool, true, false, List, [], ◌∷◌, length, Option, Some, None, refl, sym, ap, ◌∙◌, arith, get_or, option_map, slice_get, slice_set}
 use Rattle.std.specs.Option.{option_map_or}
 use Rattle.std.proofs.lemmas.Bool.{lt-ltb, le-ltb}
 use Rattle.std.specs.List.{between}
@@ -13,6 +13,18 @@ use Rattle.evaluation.specs.Objects.{found, read_place, write_local}
 use Rattle.evaluation.specs.Execute.{printed, prints}
 use Rattle.machine_frames.specs.Frames.{place_value}
 
+-- what Some holds
+pub inj : {A : Type 0} (a b : A) → Some a ≡ Some b → a ≡ b
+inj a b e = cc
+
+pub and_l : (a b : Bool) → IsTrue (a && b) → IsTrue a
+and_l true b both = refl
+and_l false b both = both
+
+pub and_r : (a b : Bool) → IsTrue (a && b) → IsTrue b
+and_r true b both = both
+and_r false b both = cc
+
 pub reads : (place : Place) (w : World) → read_place place w ≡ found (place_value w.locals w.now place) w
 reads (location.Local at) w = refl
 reads (location.Cell o at) w = refl
@@ -25,7 +37,7 @@ wrote_no_local at v w le = rw (le-ltb at (length w.locals) le) refl
 
 pub printed_bytes : (line : Bool) (shown : Option (List ℕ)) (bytes : List ℕ) (w : World) → Some bytes ≡ option_map (printed line) shown → option_map_or (λ t. prints (printed line t)) shown (gives outcome.Stuck) w ≡ prints bytes w
 printed_bytes line None bytes w e = cc
-printed_bytes line (Some t) bytes w refl = refl
+printed_bytes line (Some t) bytes w e = ap (λ b. prints b w) (sym (inj bytes (printed line t) e))
 
 pub first_and_rest : {A : Type 0} (xs : List A) (x : A) → 1 ≤ length xs → x ≡ get_or xs 0 x → xs ≡ x ∷ between 1 (length xs) xs
 first_and_rest xs x le is = first_rest xs x le ∙ ap (λ h. h ∷ between 1 (length xs) xs) (sym is)

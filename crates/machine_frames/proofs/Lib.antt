@@ -5,3 +5,5 @@ pub mod Steps
 pub mod Leaves
 pub mod Sums
 pub mod Filling
+pub mod Whole
+pub mod Starts

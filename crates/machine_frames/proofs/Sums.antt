@@ -1,7 +1,6 @@
 -- An object has no more cells than its heap may have.
 use Rattle.std.proofs.Common.{◌≡◌, ◌<◌, ◌≤◌, ◌+◌, ◌^◌, ℕ, false, List, length, Option, Some, None, refl, sym, subst, ◌∙◌, arith, option_map, slice_get, is_some}
 use Rattle.std.specs.Prelude.{option_and_then}
-use Rattle.std.proofs.Math.Option.{some-injective}
 use Rattle.std.proofs.lemmas.Option.{none-some, slice_get_past, slice_get_within, get_or_from_slice_get}
 use Rattle.std.proofs.lemmas.List.Sums.{get_or-le-sum_by}
 use Rattle.std.proofs.lemmas.List.Elements.{All-head}
@@ -11,6 +10,7 @@ use Rattle.heap_arena.specs.declared.object.Object.{Object}
 use Rattle.heap_arena.specs.Heap.{Heap, cell_count, most_cells, object_cells}
 use Rattle.heap_arena.specs.Marks.{IsSound, HasFewCells}
 use Rattle.evaluation.specs.Objects.{elements_count, has_cell}
+use Rattle.machine_frames.proofs.Leaves.{inj}
 
 object_within : (h : Heap) (o : ℕ) (object : Object ℕ) → slice_get h o ≡ Some object → object_cells object ≤ cell_count h
 object_within h o object is = subst (λ x. object_cells x ≤ cell_count h) (get_or_from_slice_get h o object object is) (get_or-le-sum_by object_cells h o object (slice_get_within h o object is))
@@ -24,7 +24,7 @@ counted kinds (Some object) n e = inner (kinds object.kind) e
   where
     inner : (t : Option Ty) → option_and_then (λ t. Some (length object.cells)) t ≡ Some n → (found : Object ℕ) × (Some object ≡ Some found) × (length found.cells ≡ n)
     inner None e = absurd (none-some _ e)
-    inner (Some t) e = (object, refl, some-injective _ _ e)
+    inner (Some t) e = (object, refl, inj (length object.cells) n e)
 
 pub count_fits : (h : Heap) (marks : List Heap) (o n : ℕ) → IsSound h marks → elements_count h o ≡ Some n → n < 2 ^ 31
 count_fits h marks o n sound is =

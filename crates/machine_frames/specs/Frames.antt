@@ -390,6 +390,10 @@ dispatch_at p part selector o args w = option_map_or (λ c. dispatch_in p part s
 abbrev pub run_maker : Program → Parts → ℕ → Maker → ℕ → List Value → Run
 run_maker p part levels maker o args = called p finished (Some o) args maker.locals (build p part (construct p part levels) o maker)
 
+-- what is done with a new object of a class of the file
+abbrev pub new_from : Program → Parts → ℕ → List Expr → ℕ → Run
+new_from p part k es o = arguments p part es [] (λ args. construct p part (length p.classes) k o args >> gives (outcome.Value (value.Ref o)))
+
 -- the message of a new object, whose value the object is
 abbrev pub messaged : Parts → ℕ → Option Expr → Run
 messaged part o message = option_map_or (λ e. part.expr e >>= (λ v. write_cell o message_place v)) message (gives outcome.Normal) >> gives (outcome.Value (value.Ref o))
@@ -417,3 +421,7 @@ start_of start = record { at = start.at; value = start.value.now }
 -- an initialiser, then those behind it
 abbrev pub started : Program → Parts → ℕ → ℕ → ℕ → Expr → List Field → Run
 started p part o c at e fields = (part.expr e >>= (λ v. write_cell o at v)) >> initialise p part o c (suc at) (drop (suc at) fields)
+
+-- the initialisers of the fields that a class declares, and then statements
+abbrev pub initialised_then : Program → Parts → ℕ → ℕ → List Field → List Stmt → Run
+initialised_then p part o c fields body = initialise p part o c 0 fields >> block p part body

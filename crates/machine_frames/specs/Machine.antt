@@ -1,5 +1,6 @@
 -- What callers see of the machine: how its runs end.
 use Rattle.std.specs.Prelude.{◌≡◌, ◌⊎◌, ℕ, ◌+◌, ◌≤◌, true, nat_le, List, [], ◌∷◌, map, slice_get, Option, Some, None, Result, Ok, Err, String, string_bytes}
+use Rattle.std.specs.Borrow.{Bor}
 use Rattle.std.specs.Str.{chars}
 use Rattle.pb_io.specs.declared.sink.PutError.{PutError}
 use Rattle.pb_io.specs.declared.sink.PutError.TheVariants as put
@@ -85,8 +86,7 @@ Finishes _ = ⊥
 
 -- the one frame goes on with these statements
 abbrev pub IsRest : List Stmt → List Frame → Type 0
-IsRest ss (frame.Normal (normal.Rest rest) ∷ []) = rest.now ≡ ss
-IsRest ss _ = ⊥
+IsRest ss frames = (rest : Bor (List Stmt)) × (frames ≡ frame.Normal (normal.Rest rest) ∷ []) × (rest.now ≡ ss)
 
 -- what a method begins with whose first argument is the first object: its body's frame, and its locals
 pub record IsFirst (main : Method) (beginning : Beginning) : Type 0 where

@@ -60,7 +60,11 @@ fn units_of(character: char) -> u32
 }
 
 /// Makes the array of the arguments in a store without objects.
-pub fn put_arguments<S: Store>(alloc: Global, store: &mut S, args: &[String]) -> Result<(), MakeError>
+pub fn put_arguments<S: Store>(
+    alloc: Global,
+    store: &mut S,
+    args: &[String],
+) -> Result<(), MakeError>
     requires short { IsTrue (has_short_arguments (map text_of args.now)) }
     requires empty { S.now store.old ≡ [] }
     ensures made { OnOk result (S.now store.new ≡ arguments_heap (map text_of args.now)) }

@@ -47,9 +47,9 @@ impl<'p, S: Store + Drop> Running<'p, S> {
         ensures err { OnErr result (FailsIn S.now S.marks S.field_types self.old self.new) }
     {
         match condition {
-            Cell::Bool(true) => self.stmt(body.get()),
+            Cell::Bool(true) => self.stmt(body),
             Cell::Bool(false) => match other {
-                Some(other) => self.stmt(other.get()),
+                Some(other) => self.stmt(other),
                 None => self.end(Outcome::Normal),
             },
             Cell::Int(_) | Cell::Null | Cell::Ref(_) | Cell::Text(_) => self.end(Outcome::Stuck),
@@ -65,9 +65,9 @@ impl<'p, S: Store + Drop> Running<'p, S> {
         ensures err { OnErr result (FailsIn S.now S.marks S.field_types self.old self.new) }
     {
         match parts {
-            LoopParts::While(test, _) => self.value_of(test.get(), ValueFrame::LoopTest(parts)),
+            LoopParts::While(test, _) => self.value_of(test, ValueFrame::LoopTest(parts)),
             LoopParts::For(test, _, _) => match test {
-                Some(test) => self.value_of(test.get(), ValueFrame::LoopTest(parts)),
+                Some(test) => self.value_of(test, ValueFrame::LoopTest(parts)),
                 None => self.body(parts),
             },
         }
@@ -89,7 +89,11 @@ impl<'p, S: Store + Drop> Running<'p, S> {
     }
 
     /// Goes on with the value of a loop's condition.
-    pub fn tested(&mut self, parts: LoopParts<'p>, condition: Cell<u32>) -> Result<Focus<'p>, OutOfMemory>
+    pub fn tested(
+        &mut self,
+        parts: LoopParts<'p>,
+        condition: Cell<u32>,
+    ) -> Result<Focus<'p>, OutOfMemory>
         ensures ok { IfOk result (Goes S.now S.marks S.field_types
             (λ part. choose condition (λ w. body_of self.old.program.now part (loop_of parts.entry) w) (gives outcome.Normal))
             self.old self.new) }
@@ -165,7 +169,11 @@ impl<'p, S: Store + Drop> Running<'p, S> {
     }
 
     /// Goes on with the outcome of a part of a loop.
-    pub fn resume_loop(&mut self, frame: LoopFrame<'p>, o: Outcome) -> Result<Focus<'p>, OutOfMemory>
+    pub fn resume_loop(
+        &mut self,
+        frame: LoopFrame<'p>,
+        o: Outcome,
+    ) -> Result<Focus<'p>, OutOfMemory>
         ensures ok { IfOk result (Turns S.now S.marks S.field_types
             (λ part w. repeated self.old.program.now part frame.entry (gives o w))
             self.old self.new) }

@@ -1,13 +1,12 @@
 //! Calls of methods.
 
-ghost use Rattle.std.specs.Prelude.{◌≡◌, ◌<◌, ◌++◌, IfOk, OnOk, OnErr, length, map};
+ghost use Rattle.std.specs.Prelude.{◌≡◌, ◌+◌, ◌*◌, ◌<◌, ◌++◌, [], IfOk, None, OnOk, OnErr, length, map};
 ghost use Rattle.heap_arena.specs.Heap.{default_of};
-ghost use Rattle.evaluation.specs.Calls.{arguments, built_in_message, dispatch, invoke, most_live, run_method};
+ghost use Rattle.evaluation.specs.Calls.{arguments, built_in_message, construct, dispatch, invoke, most_live, run_method};
 ghost use Rattle.evaluation.specs.World.{value_then};
 ghost use Rattle.core_tree.specs.Typing.{chosen_number};
 ghost use Rattle.machine_frames.specs.declared.frame.Callee.TheVariants as callee;
-ghost use Rattle.machine_frames.specs.declared.frame.CallFrame.TheVariants as call;
-ghost use Rattle.machine_frames.specs.Frames.{point, called_with, call_weight, dispatch_at, passed, Begins, Goes, Leaves, FailsIn, HasFields};
+ghost use Rattle.machine_frames.specs.Frames.{point, called_with, call_weight, dispatch_at, Begins, Goes, Leaves, FailsIn, HasFields};
 
 use crate::frame::{CallEnd, CallFrame, Callee, Focus, Frame, NormalFrame, PlainFrame};
 use crate::running::Running;
@@ -15,7 +14,7 @@ use core_tree::{BuiltIn, Expr, Method, OutOfMemory, Ty};
 use evaluation::{Outcome, Place};
 use heap_arena::{Cell, Store};
 use object_cells::class_at;
-use sqlite_items::Items;
+use sqlite_items::{Boxed, Items};
 
 /// A run has at most so many live calls.
 pub const MOST_LIVE: u32 = 65_536;
@@ -30,18 +29,68 @@ impl<'p, S: Store + Drop> Running<'p, S> {
     /// Goes on with the object of a call, whose arguments come next.
     pub fn receiver(
         &mut self,
-        object: &'p Expr,
+        object: &'p Boxed<Expr>,
         selector: u32,
-        given: &'p [Expr],
+        given: &'p Items<Expr>,
     ) -> Result<Focus<'p>, OutOfMemory>
         ensures ok { IfOk result (Goes S.now S.marks S.field_types
-            (λ part w. value_then (passed self.old.program.now part (call.Receiver selector given.entry)) (part.expr object.now w))
+            (λ part w. value_then (λ o. arguments self.old.program.now part given.entry.now [] (dispatch self.old.program.now part selector o)) (part.expr object.entry.now w))
             self.old self.new) }
         ensures light { IfOk result (Leaves S.now S.marks S.field_types 0 self.old self.new) }
         ensures err { OnErr result (FailsIn S.now S.marks S.field_types self.old self.new) }
     {
-        self.push(Frame::Call(CallFrame::Receiver(selector, given)))?;
-        Ok(Focus::Expr(object))
+        self.push(Frame::Call(CallFrame::Receiver(selector, given.as_slice())))?;
+        Ok(Focus::Expr(object.get()))
+    }
+
+    /// A call of a static method.
+    pub fn static_call(&mut self, m: u32, given: &'p Items<Expr>) -> Result<Focus<'p>, OutOfMemory>
+        requires fields { HasFields (point S.now S.marks S.field_types self.old) }
+        ensures ok { IfOk result (Goes S.now S.marks S.field_types
+            (λ part. arguments self.old.program.now part given.entry.now [] (invoke self.old.program.now part m None))
+            self.old self.new) }
+        ensures light { IfOk result (Leaves S.now S.marks S.field_types 2 self.old self.new) }
+        ensures err { OnErr result (FailsIn S.now S.marks S.field_types self.old self.new) }
+    {
+        self.arguments(Callee::Static(m), given.as_slice(), Items::new(self.alloc))
+    }
+
+    /// A call of a method on `this`, whatever the run-time class of `this` is (JLS 15.12.4.4).
+    pub fn super_call(&mut self, m: u32, given: &'p Items<Expr>) -> Result<Focus<'p>, OutOfMemory>
+        requires fields { HasFields (point S.now S.marks S.field_types self.old) }
+        ensures ok { IfOk result (Goes S.now S.marks S.field_types
+            (λ part w. arguments self.old.program.now part given.entry.now [] (invoke self.old.program.now part m w.this) w)
+            self.old self.new) }
+        ensures light { IfOk result (Leaves S.now S.marks S.field_types 2 self.old self.new) }
+        ensures err { OnErr result (FailsIn S.now S.marks S.field_types self.old self.new) }
+    {
+        self.arguments(
+            Callee::Super(m, self.this),
+            given.as_slice(),
+            Items::new(self.alloc),
+        )
+    }
+
+    /// The run of a superclass's constructor for an object, for which so many superclasses may come.
+    pub fn parent_call(
+        &mut self,
+        k: u32,
+        o: u32,
+        given: &'p Items<Expr>,
+        levels: usize,
+    ) -> Result<Focus<'p>, OutOfMemory>
+        requires fields { HasFields (point S.now S.marks S.field_types self.old) }
+        ensures ok { IfOk result (Goes S.now S.marks S.field_types
+            (λ part. arguments self.old.program.now part given.entry.now [] (construct self.old.program.now part levels k o))
+            self.old self.new) }
+        ensures light { IfOk result (Leaves S.now S.marks S.field_types (6 * (levels + 1) + 2) self.old self.new) }
+        ensures err { OnErr result (FailsIn S.now S.marks S.field_types self.old self.new) }
+    {
+        self.arguments(
+            Callee::Parent(k, o, levels),
+            given.as_slice(),
+            Items::new(self.alloc),
+        )
     }
 
     /// Arguments from left to right behind those that are there, and then the call (JLS 15.7.4).
@@ -81,12 +130,34 @@ impl<'p, S: Store + Drop> Running<'p, S> {
             Callee::Chosen(selector, object) => self.dispatch(selector, object, got),
             Callee::Super(m, this) => self.invoke(m, this, got),
             Callee::New(k, o) => self.construct_new(k, o, got),
-            Callee::Parent(k, o, levels) => Ok(Focus::Construct(k, o, got, levels)),
+            Callee::Parent(k, o, levels) => self.construct_parent(k, o, got, levels),
         }
     }
 
+    // The run of the constructor for an object of a subclass.
+    fn construct_parent(
+        &mut self,
+        k: u32,
+        o: u32,
+        got: Items<Cell<u32>>,
+        levels: usize,
+    ) -> Result<Focus<'p>, OutOfMemory>
+        ensures ok { IfOk result (Goes S.now S.marks S.field_types
+            (λ part. construct self.old.program.now part levels k o got)
+            self.old self.new) }
+        ensures light { IfOk result (Leaves S.now S.marks S.field_types (call_weight (length self.old.program.now.classes) (callee.Parent k o levels)) self.old self.new) }
+        ensures err { OnErr result (FailsIn S.now S.marks S.field_types self.old self.new) }
+    {
+        Ok(Focus::Construct(k, o, got, levels))
+    }
+
     // The run of the constructor for a new object, which is then the value.
-    fn construct_new(&mut self, k: u32, o: u32, got: Items<Cell<u32>>) -> Result<Focus<'p>, OutOfMemory>
+    fn construct_new(
+        &mut self,
+        k: u32,
+        o: u32,
+        got: Items<Cell<u32>>,
+    ) -> Result<Focus<'p>, OutOfMemory>
         ensures ok { IfOk result (Goes S.now S.marks S.field_types
             (λ part. called_with self.old.program.now part (callee.New k o) got)
             self.old self.new) }
@@ -146,7 +217,12 @@ impl<'p, S: Store + Drop> Running<'p, S> {
     fn chosen(&self, class: u32, selector: u32) -> Option<u32>
         ensures { result ≡ chosen_number self.now.program.now class selector }
     {
-        *self.program.classes.get(class as usize)?.chosen.get(selector as usize)?
+        *self
+            .program
+            .classes
+            .get(class as usize)?
+            .chosen
+            .get(selector as usize)?
     }
 
     // A selector that picks no method: `getMessage` reads the message.
@@ -199,7 +275,7 @@ impl<'p, S: Store + Drop> Running<'p, S> {
         ensures err { OnErr result (FailsIn S.now S.marks S.field_types self.old self.new) }
     {
         if self.live < MOST_LIVE {
-            self.begin(CallEnd::Method(&method.answer), this, got, method.locals.as_slice())?;
+            self.begin(CallEnd::Method(&method.answer), this, got, &method.locals)?;
             self.block(method.body.as_slice())
         } else {
             self.trap(BuiltIn::StackOverflowError)
@@ -212,14 +288,14 @@ impl<'p, S: Store + Drop> Running<'p, S> {
         end: CallEnd<'p>,
         this: Option<u32>,
         got: Items<Cell<u32>>,
-        locals: &[Ty],
+        locals: &Items<Ty>,
     ) -> Result<(), OutOfMemory>
         requires { self.old.live < most_live }
         ensures ok { OnOk result (Begins end.entry this (got ++ map default_of locals.now)
             (point S.now S.marks S.field_types self.old) (point S.now S.marks S.field_types self.new)) }
         ensures err { OnErr result (FailsIn S.now S.marks S.field_types self.old self.new) }
     {
-        let locals = with_defaults(got, locals)?;
+        let locals = with_defaults(got, locals.as_slice())?;
         let callers = std::mem::replace(&mut self.locals, locals);
         self.push(Frame::Plain(PlainFrame::Leave(end, self.this, callers)))?;
         self.this = this;

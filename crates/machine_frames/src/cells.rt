@@ -1,6 +1,6 @@
 //! Reading and writing what assignments write to.
 
-ghost use Rattle.std.specs.Prelude.{◌≡◌, IfOk, OnErr};
+ghost use Rattle.std.specs.Prelude.{◌≡◌, IfOk, OnErr, Some};
 ghost use Rattle.evaluation.specs.Values.{update_value};
 ghost use Rattle.evaluation.specs.Objects.{computed, read_cell, read_place, store, write_cell, write_place};
 ghost use Rattle.evaluation.specs.Execute.{update_place};
@@ -146,9 +146,26 @@ impl<'p, S: Store + Drop> Running<'p, S> {
         ensures err { OnErr result (FailsIn S.now S.marks S.field_types self.old self.new) }
     {
         match operand {
-            Some(e) => self.value_of(e.get(), ValueFrame::Update(op, old, place)),
+            Some(e) => self.update_by(op, old, place, e),
             None => self.update(op, old, place, Cell::Int(1)),
         }
+    }
+
+    // Goes on with the other operand of a compound assignment.
+    fn update_by(
+        &mut self,
+        op: UpOp,
+        old: Cell<u32>,
+        place: Place,
+        operand: &'p Boxed<Expr>,
+    ) -> Result<Focus<'p>, OutOfMemory>
+        ensures ok { IfOk result (Goes S.now S.marks S.field_types
+            (λ part. updated_with self.old.program.now part op old place (Some operand.entry.now))
+            self.old self.new) }
+        ensures light { IfOk result (Leaves S.now S.marks S.field_types 0 self.old self.new) }
+        ensures err { OnErr result (FailsIn S.now S.marks S.field_types self.old self.new) }
+    {
+        self.value_of(operand, ValueFrame::Update(op, old, place))
     }
 
     /// Gives a place what the operator makes of its old value and the other operand.

@@ -144,7 +144,11 @@ impl<'p, S: Store + Drop> Running<'p, S> {
     }
 
     // A `finally` block after which this outcome stands, unless the block ends abruptly.
-    fn finish_after(&mut self, last: &'p Boxed<Stmt>, earlier: Outcome) -> Result<Focus<'p>, OutOfMemory>
+    fn finish_after(
+        &mut self,
+        last: &'p Boxed<Stmt>,
+        earlier: Outcome,
+    ) -> Result<Focus<'p>, OutOfMemory>
         ensures ok { IfOk result (Goes S.now S.marks S.field_types
             (λ part w. keeping earlier (part.stmt last.entry.now w))
             self.old self.new) }

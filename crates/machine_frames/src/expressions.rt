@@ -1,23 +1,21 @@
 //! What an expression that is entered does first.
 
-ghost use Rattle.std.specs.Prelude.{IfOk, OnErr, length, []};
+ghost use Rattle.std.specs.Prelude.{IfOk, OnErr, length};
 ghost use Rattle.core_tree.specs.declared.expr.Expr.{out-Expr};
 ghost use Rattle.heap_arena.specs.declared.cell.Cell.TheVariants as value;
 ghost use Rattle.evaluation.specs.declared.outcome.Outcome.TheVariants as outcome;
 ghost use Rattle.evaluation.specs.World.{gives};
 ghost use Rattle.evaluation.specs.Values.{literal};
 ghost use Rattle.evaluation.specs.Objects.{computed};
-ghost use Rattle.evaluation.specs.Calls.{arguments};
 ghost use Rattle.evaluation.specs.Evaluate.{expr_node, this_value};
-ghost use Rattle.machine_frames.specs.Frames.{point, call_weight, called_with, entry_weight, Goes, Leaves, FailsIn, HasFields};
+ghost use Rattle.machine_frames.specs.Frames.{point, entry_weight, Goes, Leaves, FailsIn, HasFields};
 
 use crate::calls::MESSAGE_PLACE;
-use crate::frame::{Callee, Focus, ValueFrame};
+use crate::frame::{Focus, ValueFrame};
 use crate::running::Running;
 use core_tree::{Expr, OutOfMemory, Text};
 use evaluation::Outcome;
 use heap_arena::{Cell, Store};
-use sqlite_items::Items;
 use value_operators::literal;
 
 impl<'p, S: Store + Drop> Running<'p, S> {
@@ -37,28 +35,26 @@ impl<'p, S: Store + Drop> Running<'p, S> {
             Expr::Null => self.value(Cell::Null),
             Expr::This => self.this_value(),
             Expr::Local(at) => self.read_local(*at),
-            Expr::Field(e, at) => self.value_of(e.get(), ValueFrame::Field(*at)),
-            Expr::Length(e) => self.value_of(e.get(), ValueFrame::Length),
-            Expr::Element(e, i) => self.value_of(e.get(), ValueFrame::ElementIndex(i)),
-            Expr::TextLength(e) => self.value_of(e.get(), ValueFrame::TextLength),
-            Expr::TextEquals(e, f) => self.value_of(e.get(), ValueFrame::EqualsRight(f)),
-            Expr::Message(e) => self.value_of(e.get(), ValueFrame::Field(MESSAGE_PLACE)),
-            Expr::Static(m, given, _) => self.pass(Callee::Static(*m), given),
-            Expr::Chosen(e, selector, given, _) => {
-                self.receiver(e.get(), *selector, given.as_slice())
-            }
-            Expr::Super(m, given, _) => self.pass(Callee::Super(*m, self.this), given),
-            Expr::New(k, given) => self.new_object(*k, given.as_slice()),
+            Expr::Field(e, at) => self.value_of(e, ValueFrame::Field(*at)),
+            Expr::Length(e) => self.value_of(e, ValueFrame::Length),
+            Expr::Element(e, i) => self.value_of(e, ValueFrame::ElementIndex(i)),
+            Expr::TextLength(e) => self.value_of(e, ValueFrame::TextLength),
+            Expr::TextEquals(e, f) => self.value_of(e, ValueFrame::EqualsRight(f)),
+            Expr::Message(e) => self.value_of(e, ValueFrame::Field(MESSAGE_PLACE)),
+            Expr::Static(m, given, _) => self.static_call(*m, given),
+            Expr::Chosen(e, selector, given, _) => self.receiver(e, *selector, given),
+            Expr::Super(m, given, _) => self.super_call(*m, given),
+            Expr::New(k, given) => self.new_object(*k, given),
             Expr::NewBuilt(class, message) => self.new_built_in(*class, message),
-            Expr::NewArray(elements, e) => self.value_of(e.get(), ValueFrame::NewArray(elements)),
-            Expr::Unary(op, e) => self.value_of(e.get(), ValueFrame::Unary(*op)),
-            Expr::Binary(op, e, f) => self.value_of(e.get(), ValueFrame::BinaryRight(*op, f)),
-            Expr::And(e, f) => self.value_of(e.get(), ValueFrame::AndRight(f)),
-            Expr::Or(e, f) => self.value_of(e.get(), ValueFrame::OrRight(f)),
-            Expr::Cond(e, f, g) => self.value_of(e.get(), ValueFrame::Cond(f, g)),
-            Expr::Cast(to, e) => self.value_of(e.get(), ValueFrame::Cast(to)),
-            Expr::Is(of, e) => self.value_of(e.get(), ValueFrame::Is(of)),
-            Expr::Concat(e, f) => self.value_of(e.get(), ValueFrame::ConcatRight(f)),
+            Expr::NewArray(elements, e) => self.value_of(e, ValueFrame::NewArray(elements)),
+            Expr::Unary(op, e) => self.value_of(e, ValueFrame::Unary(*op)),
+            Expr::Binary(op, e, f) => self.value_of(e, ValueFrame::BinaryRight(*op, f)),
+            Expr::And(e, f) => self.value_of(e, ValueFrame::AndRight(f)),
+            Expr::Or(e, f) => self.value_of(e, ValueFrame::OrRight(f)),
+            Expr::Cond(e, f, g) => self.value_of(e, ValueFrame::Cond(f, g)),
+            Expr::Cast(to, e) => self.value_of(e, ValueFrame::Cast(to)),
+            Expr::Is(of, e) => self.value_of(e, ValueFrame::Is(of)),
+            Expr::Concat(e, f) => self.value_of(e, ValueFrame::ConcatRight(f)),
         }
     }
 
@@ -98,17 +94,5 @@ impl<'p, S: Store + Drop> Running<'p, S> {
             Some(o) => Ok(Focus::Answer(Outcome::Value(Cell::Ref(o)))),
             None => Ok(Focus::Answer(Outcome::Stuck)),
         }
-    }
-
-    // The arguments of a call from the first on.
-    fn pass(&mut self, callee: Callee, given: &'p Items<Expr>) -> Result<Focus<'p>, OutOfMemory>
-        requires fields { HasFields (point S.now S.marks S.field_types self.old) }
-        ensures ok { IfOk result (Goes S.now S.marks S.field_types
-            (λ part. arguments self.old.program.now part given.entry.now [] (called_with self.old.program.now part callee))
-            self.old self.new) }
-        ensures light { IfOk result (Leaves S.now S.marks S.field_types (call_weight (length self.old.program.now.classes) callee) self.old self.new) }
-        ensures err { OnErr result (FailsIn S.now S.marks S.field_types self.old self.new) }
-    {
-        self.arguments(callee, given.as_slice(), Items::new(self.alloc))
     }
 }

@@ -40,5 +40,5 @@ pub use frame::{
 };
 pub use machine::Machine;
 pub use running::Running;
-pub use stop::RunStop;
 pub use stack::Stack;
+pub use stop::RunStop;

@@ -10,6 +10,7 @@ use core_tree::Program;
 use heap_arena::Store;
 use pb_io::Sink;
 use std::alloc::Global;
+use type_safety::never_stuck;
 
 /// The machine over a store: it runs a program once, with explicit frames and no recursion.
 #[derive(Drop)]
@@ -53,7 +54,10 @@ impl<S: Store + Drop> Machine<S> {
     {
         match self.attempt(program, args, steps, sink) {
             Some(stop) => stop,
-            None => unreachable!(),
+            None => {
+                never_stuck();
+                unreachable!()
+            }
         }
     }
 

@@ -1,22 +1,23 @@
 //! New objects and their constructors (JLS 12.5, 15.9.4).
 
-ghost use Rattle.std.specs.Prelude.{◌≡◌, ◌+◌, ◌*◌, IfOk, OnErr, drop, length, option_map};
+ghost use Rattle.std.specs.Prelude.{◌≡◌, ◌+◌, ◌*◌, IfOk, OnErr, Some, drop, length, option_map};
 ghost use Rattle.evaluation.specs.Calls.{build, build_parent, construct, initialise};
+ghost use Rattle.evaluation.specs.Objects.{make_instance};
 ghost use Rattle.evaluation.specs.Evaluate.{new_object, new_built_in};
-ghost use Rattle.machine_frames.specs.Frames.{point, built, entry_weight, messaged, next_start, run_maker, start_of, started, Weighs, Goes, Leaves, FailsIn, HasFields};
+ghost use Rattle.machine_frames.specs.Frames.{point, built, entry_weight, initialised_then, messaged, new_from, next_start, run_maker, start_of, started, Weighs, Goes, Leaves, FailsIn, HasFields};
 
 use crate::calls::{MESSAGE_PLACE, MOST_LIVE};
 use crate::frame::{CallEnd, Callee, Focus, Frame, Made, NormalFrame, ValueFrame};
 use crate::running::Running;
 use crate::start::Start;
-use core_tree::{BuiltIn, Expr, Field, Maker, OutOfMemory, Parent};
+use core_tree::{BuiltIn, Expr, Field, Maker, OutOfMemory, Parent, Stmt};
 use evaluation::Outcome;
 use heap_arena::{Cell, Store};
 use sqlite_items::{Boxed, Items};
 
 impl<'p, S: Store + Drop> Running<'p, S> {
     /// A new object of a class of the file: it is made before its arguments are evaluated.
-    pub fn new_object(&mut self, k: u32, given: &'p [Expr]) -> Result<Focus<'p>, OutOfMemory>
+    pub fn new_object(&mut self, k: u32, given: &'p Items<Expr>) -> Result<Focus<'p>, OutOfMemory>
         requires fields { HasFields (point S.now S.marks S.field_types self.old) }
         ensures ok { IfOk result (Goes S.now S.marks S.field_types
             (λ part. new_object self.old.program.now part k given.entry.now)
@@ -25,11 +26,31 @@ impl<'p, S: Store + Drop> Running<'p, S> {
         ensures err { OnErr result (FailsIn S.now S.marks S.field_types self.old self.new) }
     {
         match self.program.makers.get(k as usize) {
-            Some(maker) => match self.make_instance(maker.owner)? {
-                Made::Object(o) => self.arguments(Callee::New(k, o), given, Items::new(self.alloc)),
-                Made::Ended(o) => Ok(Focus::Answer(o)),
-            },
-            None => Ok(Focus::Answer(Outcome::Stuck)),
+            Some(maker) => self.new_instance(k, maker.owner, given),
+            None => self.end(Outcome::Stuck),
+        }
+    }
+
+    // A new instance of a class, by the constructor with this number.
+    fn new_instance(
+        &mut self,
+        k: u32,
+        class: u32,
+        given: &'p Items<Expr>,
+    ) -> Result<Focus<'p>, OutOfMemory>
+        requires fields { HasFields (point S.now S.marks S.field_types self.old) }
+        ensures ok { IfOk result (Goes S.now S.marks S.field_types
+            (λ part. make_instance self.old.program.now class (new_from self.old.program.now part k given.entry.now))
+            self.old self.new) }
+        ensures light { IfOk result (Leaves S.now S.marks S.field_types (entry_weight (length self.old.program.now.classes)) self.old self.new) }
+        ensures err { OnErr result (FailsIn S.now S.marks S.field_types self.old self.new) }
+    {
+        match self.make_instance(class)? {
+            Made::Object(o) => {
+                let got = Items::new(self.alloc);
+                self.arguments(Callee::New(k, o), given.as_slice(), got)
+            }
+            Made::Ended(o) => Ok(Focus::Answer(o)),
         }
     }
 
@@ -65,12 +86,21 @@ impl<'p, S: Store + Drop> Running<'p, S> {
         ensures err { OnErr result (FailsIn S.now S.marks S.field_types self.old self.new) }
     {
         match message {
-            Some(e) => {
-                self.push(Frame::Normal(NormalFrame::New(o)))?;
-                self.value_of(e.get(), ValueFrame::WriteCell(o, MESSAGE_PLACE as usize))
-            }
+            Some(e) => self.with_text(o, e),
             None => self.end(Outcome::Value(Cell::Ref(o))),
         }
+    }
+
+    // The same with a message.
+    fn with_text(&mut self, o: u32, e: &'p Boxed<Expr>) -> Result<Focus<'p>, OutOfMemory>
+        ensures ok { IfOk result (Goes S.now S.marks S.field_types
+            (λ part. messaged part o (Some e.entry.now))
+            self.old self.new) }
+        ensures light { IfOk result (Leaves S.now S.marks S.field_types 0 self.old self.new) }
+        ensures err { OnErr result (FailsIn S.now S.marks S.field_types self.old self.new) }
+    {
+        self.push(Frame::Normal(NormalFrame::New(o)))?;
+        self.value_of(e, ValueFrame::WriteCell(o, MESSAGE_PLACE as usize))
     }
 
     /// The run of the constructor with this number.
@@ -113,7 +143,7 @@ impl<'p, S: Store + Drop> Running<'p, S> {
         ensures err { OnErr result (FailsIn S.now S.marks S.field_types self.old self.new) }
     {
         if self.live < MOST_LIVE {
-            self.begin(CallEnd::Constructor, Some(o), got, maker.locals.as_slice())?;
+            self.begin(CallEnd::Constructor, Some(o), got, &maker.locals)?;
             self.build(o, maker, levels)
         } else {
             self.trap(BuiltIn::StackOverflowError)
@@ -150,16 +180,10 @@ impl<'p, S: Store + Drop> Running<'p, S> {
         match parent {
             Parent::Plain => self.end(Outcome::Normal),
             Parent::Message(message) => match message {
-                Some(e) => {
-                    self.value_of(e.get(), ValueFrame::WriteCell(o, MESSAGE_PLACE as usize))
-                }
+                Some(e) => { self.value_of(e, ValueFrame::WriteCell(o, MESSAGE_PLACE as usize)) }
                 None => self.end(Outcome::Normal),
             },
-            Parent::Maker(k, given) => self.arguments(
-                Callee::Parent(*k, o, levels),
-                given.as_slice(),
-                Items::new(self.alloc),
-            ),
+            Parent::Maker(k, given) => self.parent_call(*k, o, given, levels),
         }
     }
 
@@ -171,15 +195,32 @@ impl<'p, S: Store + Drop> Running<'p, S> {
         ensures light { IfOk result (Leaves S.now S.marks S.field_types 0 self.old self.new) }
         ensures err { OnErr result (FailsIn S.now S.marks S.field_types self.old self.new) }
     {
-        let Some(row) = self.program.classes.get(maker.owner as usize) else {
-            return self.end(Outcome::Stuck);
-        };
-        match next_start(maker.owner, 0, row.fields.as_slice()) {
+        match self.program.classes.get(maker.owner as usize) {
+            Some(class) => self.initialise_then(o, maker.owner, &class.fields, &maker.body),
+            None => self.end(Outcome::Stuck),
+        }
+    }
+
+    // The initialisers of the fields that a class declares, and then these statements.
+    fn initialise_then(
+        &mut self,
+        o: u32,
+        class: u32,
+        fields: &'p Items<Field>,
+        body: &'p Items<Stmt>,
+    ) -> Result<Focus<'p>, OutOfMemory>
+        ensures ok { IfOk result (Goes S.now S.marks S.field_types
+            (λ part. initialised_then self.old.program.now part o class fields.entry.now body.entry.now)
+            self.old self.new) }
+        ensures light { IfOk result (Leaves S.now S.marks S.field_types 0 self.old self.new) }
+        ensures err { OnErr result (FailsIn S.now S.marks S.field_types self.old self.new) }
+    {
+        match next_start(class, 0, fields.as_slice()) {
             Some(start) => {
-                self.push(Frame::Normal(NormalFrame::Rest(maker.body.as_slice())))?;
-                self.start_field(o, maker.owner, start, &row.fields)
+                self.push(Frame::Normal(NormalFrame::Rest(body.as_slice())))?;
+                self.start_field(o, class, start, fields)
             }
-            None => self.block(maker.body.as_slice()),
+            None => self.block(body.as_slice()),
         }
     }
 
@@ -219,7 +260,7 @@ impl<'p, S: Store + Drop> Running<'p, S> {
         ensures err { OnErr result (FailsIn S.now S.marks S.field_types self.old self.new) }
     {
         self.push(Frame::Normal(NormalFrame::Fields(o, class, start.next, fields)))?;
-        self.value_of(start.value.get(), ValueFrame::WriteCell(o, start.at))
+        self.value_of(start.value, ValueFrame::WriteCell(o, start.at))
     }
 }
 

@@ -16,7 +16,11 @@ use sqlite_items::Boxed;
 
 impl<'p, S: Store + Drop> Running<'p, S> {
     /// `&&` behind its left operand.
-    pub fn and_then(&mut self, left: Cell<u32>, right: &'p Boxed<Expr>) -> Result<Focus<'p>, OutOfMemory>
+    pub fn and_then(
+        &mut self,
+        left: Cell<u32>,
+        right: &'p Boxed<Expr>,
+    ) -> Result<Focus<'p>, OutOfMemory>
         ensures ok { IfOk result (Goes S.now S.marks S.field_types
             (λ part. choose left (part.expr right.entry.now) (gives (outcome.Value (value.Bool false))))
             self.old self.new) }
@@ -24,14 +28,18 @@ impl<'p, S: Store + Drop> Running<'p, S> {
         ensures err { OnErr result (FailsIn S.now S.marks S.field_types self.old self.new) }
     {
         match left {
-            Cell::Bool(true) => self.expr(right.get()),
+            Cell::Bool(true) => self.expr(right),
             Cell::Bool(false) => self.end(Outcome::Value(Cell::Bool(false))),
             Cell::Int(_) | Cell::Null | Cell::Ref(_) | Cell::Text(_) => self.end(Outcome::Stuck),
         }
     }
 
     /// `||` behind its left operand.
-    pub fn or_else(&mut self, left: Cell<u32>, right: &'p Boxed<Expr>) -> Result<Focus<'p>, OutOfMemory>
+    pub fn or_else(
+        &mut self,
+        left: Cell<u32>,
+        right: &'p Boxed<Expr>,
+    ) -> Result<Focus<'p>, OutOfMemory>
         ensures ok { IfOk result (Goes S.now S.marks S.field_types
             (λ part. choose left (gives (outcome.Value (value.Bool true))) (part.expr right.entry.now))
             self.old self.new) }
@@ -40,7 +48,7 @@ impl<'p, S: Store + Drop> Running<'p, S> {
     {
         match left {
             Cell::Bool(true) => self.end(Outcome::Value(Cell::Bool(true))),
-            Cell::Bool(false) => self.expr(right.get()),
+            Cell::Bool(false) => self.expr(right),
             Cell::Int(_) | Cell::Null | Cell::Ref(_) | Cell::Text(_) => self.end(Outcome::Stuck),
         }
     }
@@ -59,8 +67,8 @@ impl<'p, S: Store + Drop> Running<'p, S> {
         ensures err { OnErr result (FailsIn S.now S.marks S.field_types self.old self.new) }
     {
         match condition {
-            Cell::Bool(true) => self.expr(where_true.get()),
-            Cell::Bool(false) => self.expr(where_false.get()),
+            Cell::Bool(true) => self.expr(where_true),
+            Cell::Bool(false) => self.expr(where_false),
             Cell::Int(_) | Cell::Null | Cell::Ref(_) | Cell::Text(_) => self.end(Outcome::Stuck),
         }
     }

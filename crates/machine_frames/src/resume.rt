@@ -19,7 +19,11 @@ use value_operators::{binary_value, concatenated, text_equals, text_length, unar
 
 impl<'p, S: Store + Drop> Running<'p, S> {
     /// Goes on with a value.
-    pub fn use_value(&mut self, frame: ValueFrame<'p>, v: Cell<u32>) -> Result<Focus<'p>, OutOfMemory>
+    pub fn use_value(
+        &mut self,
+        frame: ValueFrame<'p>,
+        v: Cell<u32>,
+    ) -> Result<Focus<'p>, OutOfMemory>
         requires fields { HasFields (point S.now S.marks S.field_types self.old) }
         ensures ok { IfOk result (Goes S.now S.marks S.field_types
             (λ part. used self.old.program.now part frame.entry v)
@@ -30,33 +34,31 @@ impl<'p, S: Store + Drop> Running<'p, S> {
         match frame {
             ValueFrame::Field(at) => self.with_field(v, at, PlaceUse::Read),
             ValueFrame::Length => self.array_length(v),
-            ValueFrame::ElementIndex(e) => self.value_of(e.get(), ValueFrame::Element(v)),
+            ValueFrame::ElementIndex(e) => self.value_of(e, ValueFrame::Element(v)),
             ValueFrame::Element(a) => self.with_element(a, v, PlaceUse::Read),
             ValueFrame::TextLength => self.come_to(text_length(&v)),
-            ValueFrame::EqualsRight(e) => self.value_of(e.get(), ValueFrame::Equals(v)),
+            ValueFrame::EqualsRight(e) => self.value_of(e, ValueFrame::Equals(v)),
             ValueFrame::Equals(s) => self.come_to(text_equals(&s, &v)),
             ValueFrame::NewArray(elements) => self.new_array(elements, v),
             ValueFrame::Unary(op) => self.come_to(unary_value(op, &v)),
-            ValueFrame::BinaryRight(op, e) => self.value_of(e.get(), ValueFrame::Binary(op, v)),
+            ValueFrame::BinaryRight(op, e) => self.value_of(e, ValueFrame::Binary(op, v)),
             ValueFrame::Binary(op, x) => self.come_to(binary_value(op, &x, &v)),
             ValueFrame::AndRight(e) => self.and_then(v, e),
             ValueFrame::OrRight(e) => self.or_else(v, e),
             ValueFrame::Cond(e, f) => self.choose_value(v, e, f),
             ValueFrame::Cast(to) => self.cast(to, v),
             ValueFrame::Is(of) => self.is_instance(of, v),
-            ValueFrame::ConcatRight(e) => self.value_of(e.get(), ValueFrame::Concat(v)),
+            ValueFrame::ConcatRight(e) => self.value_of(e, ValueFrame::Concat(v)),
             ValueFrame::Concat(x) => self.concat(&x, &v),
             ValueFrame::WriteLocal(at) => self.write_local(at, v),
-            ValueFrame::AssignField(at, e) => self.value_of(e.get(), ValueFrame::WriteField(v, at)),
+            ValueFrame::AssignField(at, e) => self.value_of(e, ValueFrame::WriteField(v, at)),
             ValueFrame::WriteField(o, at) => self.with_field(o, at, PlaceUse::Write(v)),
-            ValueFrame::AssignIndex(i, e) => self.value_of(i.get(), ValueFrame::AssignElement(v, e)),
-            ValueFrame::AssignElement(a, e) => {
-                self.value_of(e.get(), ValueFrame::WriteElement(a, v))
-            }
+            ValueFrame::AssignIndex(i, e) => self.value_of(i, ValueFrame::AssignElement(v, e)),
+            ValueFrame::AssignElement(a, e) => { self.value_of(e, ValueFrame::WriteElement(a, v)) }
             ValueFrame::WriteElement(a, i) => self.with_element(a, i, PlaceUse::Write(v)),
             ValueFrame::UpdateField(at, op, e) => self.with_field(v, at, PlaceUse::Update(op, e)),
             ValueFrame::UpdateIndex(i, op, e) => {
-                self.value_of(i.get(), ValueFrame::UpdateElement(v, op, e))
+                self.value_of(i, ValueFrame::UpdateElement(v, op, e))
             }
             ValueFrame::UpdateElement(a, op, e) => {
                 self.with_element(a, v, PlaceUse::Update(op, e))
@@ -86,7 +88,11 @@ impl<'p, S: Store + Drop> Running<'p, S> {
     }
 
     /// Goes on with a value on the way to a call.
-    pub fn pass_value(&mut self, frame: CallFrame<'p>, v: Cell<u32>) -> Result<Focus<'p>, OutOfMemory>
+    pub fn pass_value(
+        &mut self,
+        frame: CallFrame<'p>,
+        v: Cell<u32>,
+    ) -> Result<Focus<'p>, OutOfMemory>
         requires fields { HasFields (point S.now S.marks S.field_types self.old) }
         ensures ok { IfOk result (Goes S.now S.marks S.field_types
             (λ part. passed self.old.program.now part frame.entry v)
@@ -107,7 +113,11 @@ impl<'p, S: Store + Drop> Running<'p, S> {
     }
 
     /// Goes on with an outcome where a value is wanted: every other outcome stands.
-    pub fn resume_value(&mut self, frame: ValueFrame<'p>, o: Outcome) -> Result<Focus<'p>, OutOfMemory>
+    pub fn resume_value(
+        &mut self,
+        frame: ValueFrame<'p>,
+        o: Outcome,
+    ) -> Result<Focus<'p>, OutOfMemory>
         requires fields { HasFields (point S.now S.marks S.field_types self.old) }
         ensures ok { IfOk result (Goes S.now S.marks S.field_types
             (λ part w. value_then (used self.old.program.now part frame.entry) (gives o w))
@@ -129,7 +139,11 @@ impl<'p, S: Store + Drop> Running<'p, S> {
     }
 
     /// Goes on with an outcome where a value is wanted on the way to a call.
-    pub fn resume_call(&mut self, frame: CallFrame<'p>, o: Outcome) -> Result<Focus<'p>, OutOfMemory>
+    pub fn resume_call(
+        &mut self,
+        frame: CallFrame<'p>,
+        o: Outcome,
+    ) -> Result<Focus<'p>, OutOfMemory>
         requires fields { HasFields (point S.now S.marks S.field_types self.old) }
         ensures ok { IfOk result (Goes S.now S.marks S.field_types
             (λ part w. value_then (passed self.old.program.now part frame.entry) (gives o w))
@@ -151,7 +165,11 @@ impl<'p, S: Store + Drop> Running<'p, S> {
     }
 
     /// Goes on with an outcome where a part has to end normally: every other outcome stands.
-    pub fn resume_normal(&mut self, frame: NormalFrame<'p>, o: Outcome) -> Result<Focus<'p>, OutOfMemory>
+    pub fn resume_normal(
+        &mut self,
+        frame: NormalFrame<'p>,
+        o: Outcome,
+    ) -> Result<Focus<'p>, OutOfMemory>
         ensures ok { IfOk result (Goes S.now S.marks S.field_types
             (λ part w. normal_then (followed self.old.program.now part frame.entry) (gives o w))
             self.old self.new) }
@@ -189,7 +207,11 @@ impl<'p, S: Store + Drop> Running<'p, S> {
     }
 
     /// Goes on with any outcome of a part.
-    pub fn resume_plain(&mut self, frame: PlainFrame<'p>, o: Outcome) -> Result<Focus<'p>, OutOfMemory>
+    pub fn resume_plain(
+        &mut self,
+        frame: PlainFrame<'p>,
+        o: Outcome,
+    ) -> Result<Focus<'p>, OutOfMemory>
         ensures ok { IfOk result (Goes S.now S.marks S.field_types
             (λ part w. plainly self.old.program.now part frame.entry (gives o w))
             self.old self.new) }

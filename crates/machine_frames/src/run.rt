@@ -108,9 +108,9 @@ fn run_body<'p, S: Store + Drop, O: Sink>(
     sink: &mut O,
 ) -> Ended<S>
     requires fields { S.field_types store ≡ field_types program.now }
-    ensures { (args : List (List ℕ)) (main : MainMethod) → IsMain program.entry.now main → IsBegun main args (S.now store.entry) beginning.entry → S.marks store.entry ≡ [] →
+    ensures { (args : List (List ℕ)) (main : MainMethod) → IsMain program.entry.now main → IsBegun main args (S.now store) beginning.entry → S.marks store ≡ [] →
         EndsRun program.entry.now args steps (O.state sink.old) (O.state sink.new)
-            (S.now result.store) (S.marks result.store) result.taken result.stop }
+        (S.now result.store) (S.marks result.store) result.taken result.stop }
 {
     let mut running = Running {
         program,

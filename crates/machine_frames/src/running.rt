@@ -8,7 +8,7 @@ use crate::frame::{Focus, Frame, ValueFrame};
 use crate::stack::Stack;
 use core_tree::{Expr, OutOfMemory, Program};
 use heap_arena::{Cell, Store};
-use sqlite_items::Items;
+use sqlite_items::{Boxed, Items};
 use std::alloc::Global;
 
 /// A run in progress: the program, the frames, the body that is being run, the store, the steps taken and how many may be
@@ -41,9 +41,13 @@ impl<'p, S: Store + Drop> Running<'p, S> {
     }
 
     /// Goes on with the value of an expression.
-    pub fn value_of(&mut self, e: &'p Expr, frame: ValueFrame<'p>) -> Result<Focus<'p>, OutOfMemory>
+    pub fn value_of(
+        &mut self,
+        e: &'p Boxed<Expr>,
+        frame: ValueFrame<'p>,
+    ) -> Result<Focus<'p>, OutOfMemory>
         ensures ok { IfOk result (λ y. Moves false
-            (λ part w. value_then (used self.old.program.now part frame.entry) (part.expr e.now w))
+            (λ part w. value_then (used self.old.program.now part frame.entry) (part.expr e.entry.now w))
             (point S.now S.marks S.field_types self.old) (point S.now S.marks S.field_types self.new) y) }
         ensures light { IfOk result (λ y. Weighs 2
             (point S.now S.marks S.field_types self.old) (point S.now S.marks S.field_types self.new) y) }
@@ -51,6 +55,6 @@ impl<'p, S: Store + Drop> Running<'p, S> {
             (point S.now S.marks S.field_types self.old) (point S.now S.marks S.field_types self.new)) }
     {
         self.push(Frame::Value(frame))?;
-        Ok(Focus::Expr(e))
+        Ok(Focus::Expr(e.get()))
     }
 }

@@ -31,9 +31,9 @@ impl<'p, S: Store + Drop> Running<'p, S> {
             Stmt::Declare(at, ty, value) => self.declare(*at, ty, value),
             Stmt::Assign(to, e) => self.assign(to, e),
             Stmt::Update(to, op, operand) => self.update_target(to, *op, operand),
-            Stmt::Eval(e) => self.value_of(e.get(), ValueFrame::Discard),
+            Stmt::Eval(e) => self.value_of(e, ValueFrame::Discard),
             Stmt::Print(line, e) => self.enter_print(*line, e),
-            Stmt::If(e, body, other) => self.value_of(e.get(), ValueFrame::If(body, other)),
+            Stmt::If(e, body, other) => self.value_of(e, ValueFrame::If(body, other)),
             Stmt::While(test, body) => self.turn(LoopParts::While(test, body)),
             Stmt::DoWhile(body, test) => self.body(LoopParts::While(test, body)),
             Stmt::For(first, test, updates, body) => {
@@ -42,31 +42,31 @@ impl<'p, S: Store + Drop> Running<'p, S> {
             Stmt::Return(e) => self.enter_return(e),
             Stmt::Break => self.end(Outcome::Break),
             Stmt::Continue => self.end(Outcome::Continue),
-            Stmt::Throw(e) => self.value_of(e.get(), ValueFrame::Throw),
+            Stmt::Throw(e) => self.value_of(e, ValueFrame::Throw),
             Stmt::Try(body, catches, last) => self.enter_try(body, catches, last),
         }
     }
 
     /// A part that is an expression.
-    pub fn expr(&mut self, e: &'p Expr) -> Result<Focus<'p>, OutOfMemory>
+    pub fn expr(&mut self, e: &'p Boxed<Expr>) -> Result<Focus<'p>, OutOfMemory>
         ensures ok { IfOk result (Goes S.now S.marks S.field_types
             (λ part. part.expr e.entry.now)
             self.old self.new) }
         ensures light { IfOk result (Leaves S.now S.marks S.field_types 0 self.old self.new) }
         ensures err { OnErr result (FailsIn S.now S.marks S.field_types self.old self.new) }
     {
-        Ok(Focus::Expr(e))
+        Ok(Focus::Expr(e.get()))
     }
 
     /// A part that is a statement.
-    pub fn stmt(&mut self, s: &'p Stmt) -> Result<Focus<'p>, OutOfMemory>
+    pub fn stmt(&mut self, s: &'p Boxed<Stmt>) -> Result<Focus<'p>, OutOfMemory>
         ensures ok { IfOk result (Goes S.now S.marks S.field_types
             (λ part. part.stmt s.entry.now)
             self.old self.new) }
         ensures light { IfOk result (Leaves S.now S.marks S.field_types 0 self.old self.new) }
         ensures err { OnErr result (FailsIn S.now S.marks S.field_types self.old self.new) }
     {
-        Ok(Focus::Stmt(s))
+        Ok(Focus::Stmt(s.get()))
     }
 
     /// A part that ended so.
@@ -92,7 +92,7 @@ impl<'p, S: Store + Drop> Running<'p, S> {
         ensures err { OnErr result (FailsIn S.now S.marks S.field_types self.old self.new) }
     {
         match e {
-            Some(e) => self.value_of(e.get(), ValueFrame::WriteLocal(at)),
+            Some(e) => self.value_of(e, ValueFrame::WriteLocal(at)),
             None => self.write_local(at, default_of(ty)),
         }
     }
@@ -106,9 +106,9 @@ impl<'p, S: Store + Drop> Running<'p, S> {
         ensures err { OnErr result (FailsIn S.now S.marks S.field_types self.old self.new) }
     {
         match to {
-            Target::Local(at) => self.value_of(e.get(), ValueFrame::WriteLocal(*at)),
-            Target::Field(o, at) => self.value_of(o.get(), ValueFrame::AssignField(*at, e)),
-            Target::Element(a, i) => self.value_of(a.get(), ValueFrame::AssignIndex(i, e)),
+            Target::Local(at) => self.value_of(e, ValueFrame::WriteLocal(*at)),
+            Target::Field(o, at) => self.value_of(o, ValueFrame::AssignField(*at, e)),
+            Target::Element(a, i) => self.value_of(a, ValueFrame::AssignIndex(i, e)),
         }
     }
 
@@ -128,13 +128,17 @@ impl<'p, S: Store + Drop> Running<'p, S> {
     {
         match to {
             Target::Local(at) => self.update_place(op, e, Place::Local(*at)),
-            Target::Field(o, at) => self.value_of(o.get(), ValueFrame::UpdateField(*at, op, e)),
-            Target::Element(a, i) => self.value_of(a.get(), ValueFrame::UpdateIndex(i, op, e)),
+            Target::Field(o, at) => self.value_of(o, ValueFrame::UpdateField(*at, op, e)),
+            Target::Element(a, i) => self.value_of(a, ValueFrame::UpdateIndex(i, op, e)),
         }
     }
 
     // A print of a value, or of a line feed alone.
-    fn enter_print(&mut self, line: bool, e: &'p Option<Boxed<Expr>>) -> Result<Focus<'p>, OutOfMemory>
+    fn enter_print(
+        &mut self,
+        line: bool,
+        e: &'p Option<Boxed<Expr>>,
+    ) -> Result<Focus<'p>, OutOfMemory>
         ensures ok { IfOk result (Goes S.now S.marks S.field_types
             (λ part. print_of part line e.entry.now)
             self.old self.new) }
@@ -142,7 +146,7 @@ impl<'p, S: Store + Drop> Running<'p, S> {
         ensures err { OnErr result (FailsIn S.now S.marks S.field_types self.old self.new) }
     {
         match e {
-            Some(e) => self.value_of(e.get(), ValueFrame::Print(line)),
+            Some(e) => self.value_of(e, ValueFrame::Print(line)),
             None => self.print_nothing(line),
         }
     }
@@ -156,13 +160,17 @@ impl<'p, S: Store + Drop> Running<'p, S> {
         ensures err { OnErr result (FailsIn S.now S.marks S.field_types self.old self.new) }
     {
         match e {
-            Some(e) => self.value_of(e.get(), ValueFrame::Return),
+            Some(e) => self.value_of(e, ValueFrame::Return),
             None => self.end(Outcome::Return(None)),
         }
     }
 
     // The statements before the first turn of a loop, and then the loop.
-    fn first_then(&mut self, first: &'p Items<Stmt>, parts: LoopParts<'p>) -> Result<Focus<'p>, OutOfMemory>
+    fn first_then(
+        &mut self,
+        first: &'p Items<Stmt>,
+        parts: LoopParts<'p>,
+    ) -> Result<Focus<'p>, OutOfMemory>
         ensures ok { IfOk result (Goes S.now S.marks S.field_types
             (λ part. first_then self.old.program.now part first.entry.now parts.entry)
             self.old self.new) }

@@ -5,12 +5,13 @@ ghost use Rattle.machine_frames.specs.declared.frame.Focus.TheVariants as focus;
 ghost use Rattle.machine_frames.specs.Frames.{point, FailsIn, HasFields};
 ghost use Rattle.machine_frames.specs.Points.{Drives, Resumes, Steps, StepsAlone};
 
-use crate::frame::{EarlyEnd, Focus, Frame, Next};
+use crate::frame::{EarlyEnd, Focus, Frame, LoopParts, Next};
 use crate::running::Running;
 use core_tree::{Expr, OutOfMemory, Stmt};
 use evaluation::Outcome;
-use heap_arena::Store;
+use heap_arena::{Cell, Store};
 use pb_io::{Sink, put_all};
+use sqlite_items::Items;
 
 impl<'p, S: Store + Drop> Running<'p, S> {
     /// Steps to the end.
@@ -39,16 +40,47 @@ impl<'p, S: Store + Drop> Running<'p, S> {
         match x {
             Focus::Expr(e) => self.step_expr(e),
             Focus::Stmt(s) => self.step_stmt(s),
-            Focus::Loop(parts) => Ok(Next::On(self.turn(parts)?)),
-            Focus::Construct(k, o, got, levels) => {
-                Ok(Next::On(self.construct(k, o, got, levels)?))
-            }
-            Focus::Print(bytes) => {
-                put_all(sink, &bytes)?;
-                Ok(Next::On(Focus::Answer(Outcome::Normal)))
-            }
+            Focus::Loop(parts) => self.step_loop(parts),
+            Focus::Construct(k, o, got, levels) => self.step_construct(k, o, got, levels),
+            Focus::Print(bytes) => self.step_print(bytes, sink),
             Focus::Answer(o) => self.step_answer(o),
         }
+    }
+
+    // A further turn of a loop.
+    fn step_loop(&mut self, parts: LoopParts<'p>) -> Result<Next<'p>, EarlyEnd>
+        requires fields { HasFields (point S.now S.marks S.field_types self.old) }
+        requires within { self.old.taken ≤ self.old.budget }
+        ensures { StepsAlone (point S.now S.marks S.field_types self.old) (focus.Loop parts.entry)
+            (point S.now S.marks S.field_types self.new) result }
+    {
+        Ok(Next::On(self.turn(parts)?))
+    }
+
+    // The run of a constructor.
+    fn step_construct(
+        &mut self,
+        k: u32,
+        o: u32,
+        got: Items<Cell<u32>>,
+        levels: usize,
+    ) -> Result<Next<'p>, EarlyEnd>
+        requires fields { HasFields (point S.now S.marks S.field_types self.old) }
+        requires within { self.old.taken ≤ self.old.budget }
+        ensures { StepsAlone (point S.now S.marks S.field_types self.old) (focus.Construct k o got levels)
+            (point S.now S.marks S.field_types self.new) result }
+    {
+        Ok(Next::On(self.construct(k, o, got, levels)?))
+    }
+
+    // A print, after which the part has ended normally.
+    fn step_print<O: Sink>(&mut self, bytes: Vec<u8>, sink: &mut O) -> Result<Next<'p>, EarlyEnd>
+        requires within { self.old.taken ≤ self.old.budget }
+        ensures { Steps (point S.now S.marks S.field_types self.old) (focus.Print bytes) (O.state sink.old)
+            (point S.now S.marks S.field_types self.new) (O.state sink.new) result }
+    {
+        put_all(sink, bytes.as_slice())?;
+        Ok(Next::On(Focus::Answer(Outcome::Normal)))
     }
 
     // The entry of an expression.

@@ -1,8 +1,5 @@
-use Rattle.std.proofs.Common.{false, refl}
-use Rattle.machine_frames.specs.declared.frame.NormalFrame.TheVariants as normal
-use Rattle.machine_frames.specs.declared.frame.Frame.TheVariants as frame
-use Rattle.machine_frames.proofs.Moves.{pushes}
+use Rattle.machine_frames.proofs.Moves.{constructs_new}
 use Rattle.machine_frames.proofs.running.Running.construct_new.Goals as goal
 
 pub returns-clause-ok : goal.returns-clause-ok
-returns-clause-ok g c = pushes false _ _ _ (frame.Normal (normal.New c.args.o)) _ (refl, tt) c.in_ok-push.ensures.ok (λ k f J. rw c.len.ensures refl)
+returns-clause-ok g c = constructs_new _ _ c.args.k c.args.o c.args.got _ c.len-levels.ensures c.in_ok-push.ensures.ok

@@ -5,4 +5,4 @@ use Rattle.machine_frames.proofs.Moves.{pushes}
 use Rattle.machine_frames.proofs.running.Running.receiver.Goals as goal
 
 pub returns-clause-ok : goal.returns-clause-ok
-returns-clause-ok g c = pushes false _ _ _ (frame.Call (call.Receiver c.args.selector c.args.given)) _ tt c.in_ok-push.ensures.ok (λ k f J. refl)
+returns-clause-ok g c = pushes false _ _ _ (frame.Call (call.Receiver c.args.selector c.as_slice.result)) _ tt c.in_ok-push.ensures.ok (λ k f J. rw (c.get.ensures, c.as_slice.ensures) refl)

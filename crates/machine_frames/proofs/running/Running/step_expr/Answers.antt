@@ -6,8 +6,8 @@ use Rattle.machine_frames.proofs.running.Running.step_expr.Goals as goal
 pub returns-then-self : goal.returns-then-self
 returns-then-self g c = λ sink. ends_expr _ _ sink c.if-self.true
 
-pub returns-in_ok-enter_expr : goal.returns-in_ok-enter_expr
-returns-in_ok-enter_expr g c = λ sink. step_expr _ _ c.args.e _ sink (omega (arith, c.requires.within, c.if-self.false)) c.in_ok-enter_expr.ensures.ok c.in_ok-enter_expr.ensures.light
+pub returns : goal.returns
+returns g c = λ sink. step_expr _ _ c.args.e _ sink (omega (arith, c.requires.within, c.if-self.false)) c.in_ok-enter_expr.ensures.ok c.in_ok-enter_expr.ensures.light
 
 pub returns-in_err-enter_expr : goal.returns-in_err-enter_expr
 returns-in_err-enter_expr g c =

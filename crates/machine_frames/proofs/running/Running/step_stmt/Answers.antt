@@ -6,8 +6,8 @@ use Rattle.machine_frames.proofs.running.Running.step_stmt.Goals as goal
 pub returns-then-self : goal.returns-then-self
 returns-then-self g c = λ sink. ends_stmt _ _ sink c.if-self.true
 
-pub returns-in_ok-enter_stmt : goal.returns-in_ok-enter_stmt
-returns-in_ok-enter_stmt g c = λ sink. step_stmt _ _ c.args.s _ sink (omega (arith, c.requires.within, c.if-self.false)) c.in_ok-enter_stmt.ensures.ok c.in_ok-enter_stmt.ensures.light
+pub returns : goal.returns
+returns g c = λ sink. step_stmt _ _ c.args.s _ sink (omega (arith, c.requires.within, c.if-self.false)) c.in_ok-enter_stmt.ensures.ok c.in_ok-enter_stmt.ensures.light
 
 pub returns-in_err-enter_stmt : goal.returns-in_err-enter_stmt
 returns-in_err-enter_stmt g c =

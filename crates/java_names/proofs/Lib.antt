@@ -1,0 +1,3 @@
+pub mod NumberingLemmas
+pub mod ScopeLemmas
+pub mod ChosenLemmas

@@ -1,0 +1,9 @@
+pub mod Numbering
+pub mod Types
+pub mod BuiltIn
+pub mod Numbers
+pub mod Selectors
+pub mod Symbols
+pub mod Lookups
+pub mod Chosen
+pub mod Scope

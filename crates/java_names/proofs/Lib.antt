@@ -1,3 +1,4 @@
 pub mod NumberingLemmas
 pub mod ScopeLemmas
 pub mod ChosenLemmas
+pub mod NumberedLemmas

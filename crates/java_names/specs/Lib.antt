@@ -4,7 +4,6 @@ pub mod BuiltIn
 pub mod Numbers
 pub mod Selectors
 pub mod Symbols
-pub mod Numbered
 pub mod Lookups
 pub mod Chosen
 pub mod Scope

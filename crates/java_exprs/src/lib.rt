@@ -1,0 +1,14 @@
+//! Expressions of a file, checked and resolved.
+#![tactic(auto)]
+
+mod constants;
+mod folded;
+mod literal;
+mod through;
+mod typed;
+
+pub use constants::Constants;
+pub use folded::Folded;
+pub use literal::Literal;
+pub use through::Through;
+pub use typed::{Denotation, Form, Printing, Typed};

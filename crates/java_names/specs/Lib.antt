@@ -1,0 +1,7 @@
+pub mod Numbering
+pub mod Types
+pub mod Selectors
+pub mod Symbols
+pub mod Lookups
+pub mod Chosen
+pub mod Scope

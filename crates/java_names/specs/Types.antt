@@ -1,0 +1,51 @@
+-- The types that are spelled in a file.
+use Rattle.std.specs.Prelude.{ℕ, zero, suc, List, [], ◌∷◌, codes, map, Option, Some, option_map, if◌then◌else◌, is_none}
+use Rattle.std.specs.Option.{option_map_or, unwrap_or}
+use Rattle.java_syntax.specs.declared.name.BaseType.{BaseType}
+use Rattle.java_syntax.specs.declared.name.BaseType.TheVariants.{Int, Boolean, Class}
+use Rattle.java_syntax.specs.declared.name.TypeTree.{TypeTree}
+use Rattle.core_tree.specs.declared.ty.Ty.{Ty}
+use Rattle.core_tree.specs.declared.ty.Ty.TheVariants as ty
+use Rattle.class_table.specs.Names.{Name, same_name, number_of}
+
+-- the type of arrays with so many pairs of brackets
+unfoldable pub arrays : ℕ → Ty → Ty
+arrays zero t = t
+arrays (suc n) t = ty.Array (arrays n t)
+
+abbrev pub string_name : Name
+string_name = codes "String"
+
+-- the type that a name stands for, where the classes have these names (JLS 4.3)
+abbrev pub named_type : List Name → Name → Option Ty
+named_type names name = if same_name string_name name then Some ty.Text else option_map ty.Class (number_of names name)
+
+-- the type of a base without brackets
+abbrev pub base_type : List Name → BaseType → Option Ty
+base_type names Int = Some ty.Int
+base_type names Boolean = Some ty.Bool
+base_type names (Class c) = named_type names c.name
+
+-- the type that is spelled; none where its name is unknown
+abbrev pub type_of : List Name → TypeTree → Option Ty
+type_of names tree = option_map (arrays tree.dimensions) (base_type names tree.base)
+
+-- the places at which a base breaks rule 10: that of a name that is no type
+abbrev pub unknown_base : List Name → BaseType → List ℕ
+unknown_base names (Class c) = if is_none (named_type names c.name) then c.at ∷ [] else []
+unknown_base names _ = []
+
+-- the places at which a type breaks rule 10
+abbrev pub unknown_type : List Name → TypeTree → List ℕ
+unknown_type names tree = unknown_base names tree.base
+
+-- the type of a declaration; `Void` where its name is unknown, which breaks rule 10
+abbrev pub declared_type : List Name → TypeTree → Ty
+declared_type names tree = unwrap_or (type_of names tree) ty.Void
+
+abbrev pub declared_types : List Name → List TypeTree → List Ty
+declared_types names trees = map (declared_type names) trees
+
+-- the type of a result
+abbrev pub answer_type : List Name → Option TypeTree → Ty
+answer_type names answer = option_map_or (declared_type names) answer ty.Void

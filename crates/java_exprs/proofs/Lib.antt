@@ -1,2 +1,3 @@
 pub mod TypeLemmas
+pub mod AttrLemmas
 pub mod Rows

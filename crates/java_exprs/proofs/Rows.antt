@@ -18,6 +18,7 @@ use Rattle.java_names.specs.declared.symbol.Symbols.{Symbols}
 use Rattle.java_names.specs.declared.scope.Scope.{Scope}
 use Rattle.java_names.specs.Types.{arrays}
 use Rattle.java_names.specs.Scope.{first_scope, declared}
+use Rattle.java_exprs.specs.declared.environment.Environment.{Environment}
 use Rattle.java_exprs.specs.declared.literal.Literal.TheVariants as literal
 use Rattle.java_exprs.specs.declared.folded.Folded.{Folded}
 use Rattle.java_exprs.specs.declared.folded.Folded.TheVariants as folded
@@ -26,7 +27,6 @@ use Rattle.java_exprs.specs.declared.typed.Denotation.TheVariants as denotes
 use Rattle.java_exprs.specs.declared.typed.Form.{Form}
 use Rattle.java_exprs.specs.declared.typed.Form.TheVariants as form
 use Rattle.java_exprs.specs.Attr.{Attr, value_faults, negated_faults, prefix_faults}
-use Rattle.java_exprs.specs.Lookups.{Env}
 use Rattle.java_exprs.specs.Operators.{gives_int, gives_bool, of_parts, binary_folded, choice_folded}
 use Rattle.java_exprs.proofs.TypeLemmas.{assignable-Class, assignable-Int, assignable-Bool, assignable-Array, assignable-Null}
 use Rattle.java_exprs.specs.Rules.{rule_10, rule_11, rule_12, rule_13, rule_14, rule_15, rule_16, rule_19, rule_21, broken_here}
@@ -34,7 +34,7 @@ use Rattle.java_exprs.specs.Rules.{rule_10, rule_11, rule_12, rule_13, rule_14, 
 -- ---- what the rows speak of
 
 abbrev part : Denotation → Form → ℕ → Attr
-part d f at = record { at = at; denotes = Some d; form = f; core = core.Null; faults = [] }
+part d f at = record { at = at; denotes = Some d; form = f; needs_minus = false; core = core.Null; faults = [] }
 
 abbrev of_type : Ty → ℕ → Attr
 of_type t = part (denotes.Value t) form.Other
@@ -92,7 +92,7 @@ class_b = record {
   at = 6;
 }
 
-abbrev env : Env
+abbrev env : Environment
 env = record {
   symbols = record { names = codes "A" ∷ codes "B" ∷ []; classes = class_a ∷ class_b ∷ []; selectors = [] };
   constants = [];
@@ -236,10 +236,10 @@ too_great = refl
 greatest : rule_19 (Expr-F.Number 7 2_147_483_648) ≡ []
 greatest = refl
 
-without_minus : value_faults (part (denotes.Value ty.Int) form.NeedsMinus 7) ≡ record { rule = 19; at = 7 } ∷ []
+without_minus : value_faults (record (int 7) { needs_minus = true }) ≡ record { rule = 19; at = 7 } ∷ []
 without_minus = refl
 
-behind_minus : negated_faults (part (denotes.Value ty.Int) form.NeedsMinus 7) ≡ []
+behind_minus : negated_faults (record (int 7) { needs_minus = true }) ≡ []
 behind_minus = refl
 
 -- ---- 20: the initialisers of constants

@@ -7,14 +7,14 @@ use Rattle.java_syntax.specs.declared.expression.Expr.TheOpen.{Expr-F}
 use Rattle.java_exprs.specs.declared.typed.Denotation.{Denotation}
 use Rattle.java_exprs.specs.declared.typed.Denotation.TheVariants as denotes
 use Rattle.java_exprs.specs.declared.typed.Form.{Form}
-use Rattle.java_exprs.specs.declared.typed.Form.TheVariants as form
 
--- what is known of an expression: the number of its first token, what it denotes where its names are known, its form, what
--- it resolves to, and the rules that are broken in it, wherever it stands
+-- what is known of an expression: the number of its first token, what it denotes where its names are known, its form, whether
+-- it is the number 2147483648, what it resolves to, and the rules that are broken in it, wherever it stands
 pub record Attr : Type 0 where
   pub at : ℕ
   pub denotes : Option Denotation
   pub form : Form
+  pub needs_minus : Bool
   pub core : Core
   pub faults : List Fault
 
@@ -54,10 +54,6 @@ is_nothing (Some denotes.Nothing) = true
 is_nothing (Some (denotes.Print p)) = true
 is_nothing _ = false
 
-abbrev pub needs_minus : Form → Bool
-needs_minus form.NeedsMinus = true
-needs_minus _ = false
-
 abbrev pub only_if : Bool → ℕ → List ℕ
 only_if true at = at ∷ []
 only_if false at = []
@@ -72,7 +68,7 @@ nothing_11 e = only_if (is_nothing e.denotes) e.at
 
 -- 19: 2147483648 without a minus before it
 abbrev pub bare_19 : Attr → List ℕ
-bare_19 e = only_if (needs_minus e.form) e.at
+bare_19 e = only_if e.needs_minus e.at
 
 -- what is broken in a part that stands where a value is needed
 abbrev pub value_faults : Attr → List Fault

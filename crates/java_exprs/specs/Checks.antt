@@ -7,10 +7,10 @@ use Rattle.java_syntax.specs.declared.expression.Expr.{Expr}
 use Rattle.java_syntax.specs.declared.expression.Expr.TheOpen.{Expr-F}
 use Rattle.java_syntax.specs.declared.expression.Expr.TheFolds.{fold-Expr}
 use Rattle.java_names.specs.declared.scope.Scope.{Scope}
+use Rattle.java_exprs.specs.declared.environment.Environment.{Environment}
 use Rattle.java_exprs.specs.declared.typed.Typed.{Typed}
 use Rattle.java_exprs.specs.Attr.{Attr, Node}
-use Rattle.java_exprs.specs.Lookups.{Env}
-use Rattle.java_exprs.specs.Denotes.{denotes_of, form_of}
+use Rattle.java_exprs.specs.Denotes.{denotes_of, form_of, needs_minus}
 use Rattle.java_exprs.specs.Resolved.{core_of}
 use Rattle.java_exprs.specs.Rules.{broken_below, broken_here}
 
@@ -36,17 +36,18 @@ first_token (Expr-F.Binary op l r) = l.at
 first_token (Expr-F.InstanceOf e t) = e.at
 first_token (Expr-F.Conditional c a b) = c.at
 
-abbrev pub attr_at : Env → Scope → Node → Attr
+abbrev pub attr_at : Environment → Scope → Node → Attr
 attr_at env s n = record {
   at = first_token n;
   denotes = denotes_of env s n;
   form = form_of env s n;
+  needs_minus = needs_minus n;
   core = core_of env s n;
   faults = broken_below n ++ broken_here env s n;
 }
 
 -- what is known of an expression in a scope
-unfoldable pub attr : Env → Scope → Expr → Attr
+unfoldable pub attr : Environment → Scope → Expr → Attr
 attr env s = fold-Expr Attr (attr_at env s)
 
 -- ---- what a check answers
@@ -63,7 +64,7 @@ Refuses faults error.OutOfMemory = Unit {0}
 
 -- what is known of an expression that breaks no rule
 abbrev pub clean : Typed → Attr
-clean v = record { at = v.at; denotes = Some v.denotes; form = v.form; core = v.core; faults = [] }
+clean v = record { at = v.at; denotes = Some v.denotes; form = v.form; needs_minus = v.needs_minus; core = v.core; faults = [] }
 
 abbrev pub Checks : Attr → Result Typed CheckError → Type 0
 Checks a (Ok v) = a ≡ clean v

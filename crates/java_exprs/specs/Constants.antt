@@ -10,11 +10,12 @@ use Rattle.class_table.specs.Names.{Name}
 use Rattle.java_names.specs.declared.scope.Scope.{Scope}
 use Rattle.java_names.specs.declared.symbol.FieldSymbol.{FieldSymbol}
 use Rattle.java_names.specs.Scope.{Meaning, Local, Field, Class, Unknown, meaning_of}
+use Rattle.java_exprs.specs.declared.environment.Environment.{Environment}
 use Rattle.java_exprs.specs.declared.literal.Literal.{Literal}
 use Rattle.java_exprs.specs.declared.literal.Literal.TheVariants as literal
 use Rattle.java_exprs.specs.declared.folded.Folded.{Folded}
 use Rattle.java_exprs.specs.declared.folded.Folded.TheVariants as folded
-use Rattle.java_exprs.specs.Lookups.{Env, member_of}
+use Rattle.java_exprs.specs.Lookups.{member_of}
 use Rattle.java_exprs.specs.Operators.{gives_int, gives_bool, text_folded, of_parts, unary_folded, binary_folded, choice_folded}
 
 -- a constant that was read, with its value or without one; a field, and a constant that comes later, is no part
@@ -24,26 +25,26 @@ read_folded (Some None) = folded.Unknown
 read_folded None = folded.Other
 
 -- an instance field isn't among the constants
-abbrev pub field_folded : Env → FieldSymbol → Folded
+abbrev pub field_folded : Environment → FieldSymbol → Folded
 field_folded env f = read_folded (option_map (λ c. c.1) (find (λ c. c.0 == f.at) env.constants))
 
-abbrev pub found_folded : Env → Option FieldSymbol → Folded
+abbrev pub found_folded : Environment → Option FieldSymbol → Folded
 found_folded env (Some f) = field_folded env f
 found_folded env None = folded.Other
 
 -- a name is a constant, or a class before a dot
-abbrev pub name_folded : Env → Meaning → Folded
+abbrev pub name_folded : Environment → Meaning → Folded
 name_folded env (Field f) = field_folded env f
 name_folded env (Class c) = folded.Class c
 name_folded env (Local n) = folded.Other
 name_folded env Unknown = folded.Other
 
 -- a constant behind a class
-abbrev pub behind_folded : Env → Folded → Name → Folded
+abbrev pub behind_folded : Environment → Folded → Name → Folded
 behind_folded env (folded.Class c) x = found_folded env (member_of env c x)
 behind_folded env _ x = folded.Other
 
-abbrev pub folded_at : Env → Scope → Expr-F Folded → Folded
+abbrev pub folded_at : Environment → Scope → Expr-F Folded → Folded
 folded_at env s (Expr-F.Number at n) = gives_int (wrap (pos n))
 folded_at env s (Expr-F.Text at t) = text_folded t
 folded_at env s (Expr-F.Bool at b) = gives_bool b
@@ -57,7 +58,7 @@ folded_at env s (Expr-F.Conditional c a b) = of_parts (c ∷ a ∷ b ∷ []) (ch
 folded_at env s _ = folded.Other
 
 -- what an expression is as an initialiser, or as a part of one
-unfoldable pub folded_of : Env → Scope → Expr → Folded
+unfoldable pub folded_of : Environment → Scope → Expr → Folded
 folded_of env s = fold-Expr Folded (folded_at env s)
 
 -- the value of a constant whose initialiser this is, where it breaks no rule

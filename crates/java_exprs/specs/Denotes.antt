@@ -14,6 +14,7 @@ use Rattle.java_syntax.specs.declared.operator.BinaryOp.TheVariants as binary
 use Rattle.java_syntax.specs.declared.expression.Expr.TheOpen.{Expr-F}
 use Rattle.class_table.specs.Names.{Name, same_name}
 use Rattle.java_names.specs.declared.scope.Scope.{Scope}
+use Rattle.java_exprs.specs.declared.environment.Environment.{Environment}
 use Rattle.java_exprs.specs.declared.typed.Denotation.{Denotation}
 use Rattle.java_exprs.specs.declared.typed.Denotation.TheVariants as denotes
 use Rattle.java_exprs.specs.declared.typed.Form.{Form}
@@ -21,7 +22,7 @@ use Rattle.java_exprs.specs.declared.typed.Form.TheVariants as form
 use Rattle.java_exprs.specs.Types.{wider}
 use Rattle.java_exprs.specs.Attr.{Attr, Node, value_type}
 use Rattle.java_exprs.specs.Members.{Naming, Calling, naming, calling}
-use Rattle.java_exprs.specs.Lookups.{Env, member_of, method_of, class_named, local_named, local_denotes, variable_denotes, answer_denotes, type_named, elements_named}
+use Rattle.java_exprs.specs.Lookups.{member_of, method_of, class_named, local_named, local_denotes, variable_denotes, answer_denotes, type_named, elements_named}
 
 -- ---- names of the library
 
@@ -52,19 +53,19 @@ abbrev pub value : Option Ty → Option Denotation
 value t = option_map denotes.Value t
 
 -- a field or a constant
-abbrev pub member_denotes : Env → Naming → Option Denotation
+abbrev pub member_denotes : Environment → Naming → Option Denotation
 member_denotes env k = option_and_then (λ m. variable_denotes m.ty) (member_of env k.class k.name.name)
 
 -- a method's result
-abbrev pub call_denotes : Env → Calling → Option Denotation
+abbrev pub call_denotes : Environment → Calling → Option Denotation
 call_denotes env k = option_map (λ m. answer_denotes m.answer) (method_of env k.class k.name.name (length k.arguments))
 
 -- a class, or `System`
-abbrev pub class_denotes : Env → Name → Option Denotation
+abbrev pub class_denotes : Environment → Name → Option Denotation
 class_denotes env x = option_map_or (λ c. Some (denotes.Class c)) (class_named env x) (if same_name x system_name then Some denotes.System else None)
 
 -- a name is a local, then a field or a constant, then a class
-abbrev pub name_denotes : Env → Scope → Ident → Option Denotation
+abbrev pub name_denotes : Environment → Scope → Ident → Option Denotation
 name_denotes env s x =
     option_map_or (local_denotes s) (local_named s x.name)
     (option_map_or (λ m. variable_denotes m.ty) (member_of env s.class x.name) (class_denotes env x.name))
@@ -119,13 +120,13 @@ binary_type binary.Add a b = sum_type a b
 binary_type _ a b = Some ty.Int
 
 -- the wider of the two
-abbrev pub choice_type : Env → Option Ty → Option Ty → Option Ty
+abbrev pub choice_type : Environment → Option Ty → Option Ty → Option Ty
 choice_type env (Some a) (Some b) = Some (wider env.symbols a b)
 choice_type env _ _ = None
 
 -- ---- all kinds of nodes
 
-abbrev pub denotes_of : Env → Scope → Node → Option Denotation
+abbrev pub denotes_of : Environment → Scope → Node → Option Denotation
 denotes_of env s (Expr-F.Number at n) = Some (denotes.Value ty.Int)
 denotes_of env s (Expr-F.Text at t) = Some (denotes.Value ty.Text)
 denotes_of env s (Expr-F.Bool at b) = Some (denotes.Value ty.Bool)
@@ -149,7 +150,7 @@ denotes_of env s (Expr-F.Conditional c a b) = value (choice_type env (value_type
 -- ---- its form
 
 -- an instance field can be assigned to, a constant can't
-abbrev pub member_form : Env → Naming → Form
+abbrev pub member_form : Environment → Naming → Form
 member_form env k = option_map_or (λ m. if is_some m.place then form.Variable else form.Constant k.name.at) (member_of env k.class k.name.name) form.Other
 
 -- parentheses change nothing of a variable or a constant
@@ -158,12 +159,7 @@ form_inside form.Variable = form.Variable
 form_inside (form.Constant at) = form.Constant at
 form_inside _ = form.Other
 
--- the number that needs a minus
-abbrev pub number_form : ℕ → Form
-number_form n = if n == 2_147_483_648 then form.NeedsMinus else form.Other
-
-abbrev pub form_of : Env → Scope → Node → Form
-form_of env s (Expr-F.Number at n) = number_form n
+abbrev pub form_of : Environment → Scope → Node → Form
 form_of env s (Expr-F.Name x) = if is_some (local_named s x.name) then form.Variable else option_map_or (member_form env) (naming env s (Expr-F.Name x)) form.Other
 form_of env s (Expr-F.Field o f) = option_map_or (member_form env) (naming env s (Expr-F.Field o f)) form.Other
 form_of env s (Expr-F.Element a i) = form.Variable
@@ -173,3 +169,8 @@ form_of env s (Expr-F.Super at m xs) = form.Call
 form_of env s (Expr-F.New at c xs) = form.Call
 form_of env s (Expr-F.Method o m xs) = form.Call
 form_of env s _ = form.Other
+
+-- the number 2147483648
+abbrev pub needs_minus : Node → Bool
+needs_minus (Expr-F.Number at n) = n == 2_147_483_648
+needs_minus _ = false

@@ -6,13 +6,14 @@ use Rattle.core_tree.specs.declared.expr.Expr.TheVariants as core
 use Rattle.core_tree.specs.Types.{class_of}
 use Rattle.java_syntax.specs.declared.name.Ident.{Ident}
 use Rattle.java_syntax.specs.declared.expression.Expr.TheOpen.{Expr-F}
+use Rattle.java_exprs.specs.declared.environment.Environment.{Environment}
 use Rattle.java_exprs.specs.declared.typed.Denotation.{Denotation}
 use Rattle.java_exprs.specs.declared.typed.Denotation.TheVariants as denotes
 use Rattle.java_exprs.specs.declared.through.Through.{Through}
 use Rattle.java_exprs.specs.declared.through.Through.TheVariants as through
 use Rattle.java_names.specs.declared.scope.Scope.{Scope}
 use Rattle.java_exprs.specs.Attr.{Attr, Node, value_type}
-use Rattle.java_exprs.specs.Lookups.{Env, superclass_of, local_named}
+use Rattle.java_exprs.specs.Lookups.{superclass_of, local_named}
 
 -- the class of an object
 abbrev pub object_class : Option Denotation → Option ℕ
@@ -34,7 +35,7 @@ naming_behind o f d = option_map (λ c. record { through = through.Object; class
 abbrev pub where_no_local : Scope → Ident → Naming → Option Naming
 where_no_local s x k = if is_some (local_named s x.name) then None else Some k
 
-abbrev pub naming : Env → Scope → Node → Option Naming
+abbrev pub naming : Environment → Scope → Node → Option Naming
 naming env s (Expr-F.Name x) = where_no_local s x (record { through = through.This; class = s.class; object = core.This; name = x })
 naming env s (Expr-F.Field o f) = naming_behind o f o.denotes
 naming env s _ = None
@@ -51,7 +52,7 @@ abbrev pub calling_behind : Attr → Ident → List Attr → Option Denotation �
 calling_behind o m xs (Some (denotes.Class c)) = Some (record { through = through.Class; class = c; object = core.This; name = m; arguments = xs })
 calling_behind o m xs d = option_map (λ c. record { through = through.Object; class = c; object = o.core; name = m; arguments = xs }) (object_class d)
 
-abbrev pub calling : Env → Scope → Node → Option Calling
+abbrev pub calling : Environment → Scope → Node → Option Calling
 calling env s (Expr-F.Call m xs) = Some (record { through = through.This; class = s.class; object = core.This; name = m; arguments = xs })
 calling env s (Expr-F.Super at m xs) = option_map (λ c. record { through = through.Super; class = c; object = core.This; name = m; arguments = xs }) (superclass_of env s.class)
 calling env s (Expr-F.Method o m xs) = calling_behind o m xs o.denotes

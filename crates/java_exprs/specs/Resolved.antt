@@ -23,6 +23,7 @@ use Rattle.java_syntax.specs.declared.expression.Expr.TheOpen.{Expr-F}
 use Rattle.class_table.specs.Names.{Name, same_name}
 use Rattle.java_names.specs.declared.scope.Scope.{Scope}
 use Rattle.java_names.specs.declared.symbol.MethodSymbol.{MethodSymbol}
+use Rattle.java_exprs.specs.declared.environment.Environment.{Environment}
 use Rattle.java_exprs.specs.declared.literal.Literal.{Literal}
 use Rattle.java_exprs.specs.declared.literal.Literal.TheVariants as literal
 use Rattle.java_exprs.specs.declared.typed.Denotation.{Denotation}
@@ -32,7 +33,7 @@ use Rattle.java_exprs.specs.declared.through.Through.TheVariants as through
 use Rattle.java_exprs.specs.Attr.{Attr, Node, value_type}
 use Rattle.java_exprs.specs.Members.{Naming, Calling, naming, calling}
 use Rattle.java_exprs.specs.Denotes.{is_text, is_print, equals_name}
-use Rattle.java_exprs.specs.Lookups.{Env, member_of, method_of, class_named, local_named, maker_of, type_named, elements_named, constant_at}
+use Rattle.java_exprs.specs.Lookups.{member_of, method_of, class_named, local_named, maker_of, type_named, elements_named, constant_at}
 
 abbrev pub cores : List Attr → List Core
 cores es = map (λ e. e.core) es
@@ -53,7 +54,7 @@ literal_core (literal.Text t) = core.Text t
 literal_core literal.Null = core.Null
 
 -- a field is read from its object; a constant is its value
-abbrev pub member_core : Env → Naming → Core
+abbrev pub member_core : Environment → Naming → Core
 member_core env k =
     option_map_or (λ m. option_map_or (λ place. view.Field k.object place) m.place (option_map_or literal_core (constant_at env m.at) core.Null))
     (member_of env k.class k.name.name) core.Null
@@ -65,19 +66,19 @@ instance_call k m site = elim k.through [
   | _ ↦ view.Chosen k.object (unwrap_or m.selector 0) (cores k.arguments) site
   ]
 
-abbrev pub method_core : Env → Calling → MethodSymbol → Core
+abbrev pub method_core : Environment → Calling → MethodSymbol → Core
 method_core env k m =
     if m.is_static then view.Static (unwrap_or m.number 0) (cores k.arguments) (site_at env.places k.name.at)
     else instance_call k m (site_at env.places k.name.at)
 
-abbrev pub call_core : Env → Calling → Core
+abbrev pub call_core : Environment → Calling → Core
 call_core env k = option_map_or (method_core env k) (method_of env k.class k.name.name (length k.arguments)) core.Null
 
-abbrev pub name_core : Env → Scope → Ident → Option Naming → Core
+abbrev pub name_core : Environment → Scope → Ident → Option Naming → Core
 name_core env s x k = option_map_or core.Local (local_named s x.name) (option_map_or (member_core env) k core.Null)
 
 -- a constructor of the file, or one of a built-in class
-abbrev pub new_core : Env → Ident → List Attr → Core
+abbrev pub new_core : Environment → Ident → List Attr → Core
 new_core env c xs =
     option_map_or (λ class. option_map_or (λ m. option_map_or (λ number. view.New number (cores xs)) m.number (view.NewBuilt class (first_core xs)))
         (maker_of env class (length xs)) core.Null)
@@ -124,7 +125,7 @@ binary_core binary.Remainder text l r = view.Binary bin.Rem l r
 abbrev pub joins : Attr → Attr → Bool
 joins l r = is_text (value_type l.denotes) || is_text (value_type r.denotes)
 
-abbrev pub core_of : Env → Scope → Node → Core
+abbrev pub core_of : Environment → Scope → Node → Core
 core_of env s (Expr-F.Number at n) = core.Int (wrap (pos n))
 core_of env s (Expr-F.Text at t) = core.Text t
 core_of env s (Expr-F.Bool at b) = core.Bool b

@@ -18,6 +18,7 @@ use Rattle.java_names.specs.declared.scope.Scope.{Scope}
 use Rattle.java_names.specs.declared.symbol.FieldSymbol.{FieldSymbol}
 use Rattle.java_names.specs.declared.symbol.MethodSymbol.{MethodSymbol}
 use Rattle.java_names.specs.Lookups.{is_accessible}
+use Rattle.java_exprs.specs.declared.environment.Environment.{Environment}
 use Rattle.java_exprs.specs.declared.typed.Denotation.{Denotation}
 use Rattle.java_exprs.specs.declared.typed.Denotation.TheVariants as denotes
 use Rattle.java_exprs.specs.declared.through.Through.{Through}
@@ -26,7 +27,7 @@ use Rattle.java_exprs.specs.Types.{is_assignable, is_either_way, is_printed}
 use Rattle.java_exprs.specs.Attr.{Attr, Node, value_type, unless, only_if, of_rule, value_faults, values_faults, negated_faults, prefix_faults}
 use Rattle.java_exprs.specs.Members.{Naming, Calling, naming, calling}
 use Rattle.java_exprs.specs.Denotes.{system_name, is_print, println_name, out_name, length_name, equals_name}
-use Rattle.java_exprs.specs.Lookups.{Env, member_of, has_method, method_of, class_named, local_named, maker_of, unknown_type, unknown_base, type_named}
+use Rattle.java_exprs.specs.Lookups.{member_of, has_method, method_of, class_named, local_named, maker_of, unknown_type, unknown_base, type_named}
 
 -- ---- what is asked of parts
 
@@ -35,11 +36,11 @@ abbrev pub wants : (Ty → Bool) → Attr → List ℕ
 wants test e = option_map_or (λ t. unless (test t) e.at) (value_type e.denotes) []
 
 -- a value that can be assigned to a variable of this type; nothing is asked where the type has an unknown name
-abbrev pub wants_type : Env → Ty → Attr → List ℕ
+abbrev pub wants_type : Environment → Ty → Attr → List ℕ
 wants_type env want e = if is_void want then [] else wants (λ from. is_assignable env.symbols from want) e
 
 -- each argument fits its parameter
-abbrev pub wants_each : Env → List Attr → List Ty → List ℕ
+abbrev pub wants_each : Environment → List Attr → List Ty → List ℕ
 wants_each env [] params = []
 wants_each env (e ∷ es) [] = []
 wants_each env (e ∷ es) (p ∷ ps) = wants_type env p e ++ wants_each env es ps
@@ -57,10 +58,10 @@ is_array t = is_some (elements_of t)
 
 -- ---- fields and methods, through `this`, `super`, a class or an object
 
-abbrev pub member_at : Env → Naming → Option FieldSymbol
+abbrev pub member_at : Environment → Naming → Option FieldSymbol
 member_at env k = member_of env k.class k.name.name
 
-abbrev pub method_at : Env → Calling → Option MethodSymbol
+abbrev pub method_at : Environment → Calling → Option MethodSymbol
 method_at env k = method_of env k.class k.name.name (length k.arguments)
 
 abbrev pub is_behind_class : Through → Bool
@@ -105,17 +106,17 @@ method_10 m (Some denotes.Output) = unless (is_print m.name) m.at
 method_10 m (Some (denotes.Value t)) = unless (not (has_members t) || (is_string t && is_text_method m.name)) m.at
 method_10 m _ = []
 
-abbrev pub naming_10 : Env → Naming → List ℕ
+abbrev pub naming_10 : Environment → Naming → List ℕ
 naming_10 env k = unless (option_map_or (is_found k) (member_at env k) false) k.name.at
 
-abbrev pub calling_10 : Env → Calling → List ℕ
+abbrev pub calling_10 : Environment → Calling → List ℕ
 calling_10 env k = unless (has_method env k.class k.name.name) k.name.at
 
 -- a local, a field or constant, a class, or `System`
-abbrev pub is_known : Env → Scope → Name → Bool
+abbrev pub is_known : Environment → Scope → Name → Bool
 is_known env s x = is_some (local_named s x) || (is_some (member_of env s.class x) || (is_some (class_named env x) || same_name x system_name))
 
-abbrev pub rule_10 : Env → Scope → Node → List ℕ
+abbrev pub rule_10 : Environment → Scope → Node → List ℕ
 rule_10 env s (Expr-F.Name x) = unless (is_known env s x.name) x.at
 rule_10 env s (Expr-F.Call m xs) = option_map_or (calling_10 env) (calling env s (Expr-F.Call m xs)) []
 rule_10 env s (Expr-F.Super at m xs) = option_map_or (calling_10 env) (calling env s (Expr-F.Super at m xs)) []
@@ -130,14 +131,14 @@ rule_10 env s _ = []
 -- ---- 11: a type doesn't fit
 
 -- an instance field behind a class
-abbrev pub naming_11 : Env → Naming → List ℕ
+abbrev pub naming_11 : Environment → Naming → List ℕ
 naming_11 env k = only_if (is_behind_class k.through && option_map_or (λ m. is_some m.place) (member_at env k) false) k.name.at
 
 -- an instance method behind a class, or a static one on an object
 abbrev pub is_misplaced : Through → MethodSymbol → Bool
 is_misplaced through m = (is_behind_class through && not m.is_static) || (is_on_object through && m.is_static)
 
-abbrev pub calling_11 : Env → Calling → List ℕ
+abbrev pub calling_11 : Environment → Calling → List ℕ
 calling_11 env k = option_map_or (λ m. only_if (is_misplaced k.through m) k.name.at ++ wants_each env k.arguments m.params) (method_at env k) []
 
 -- an int, a boolean or null before a dot
@@ -145,12 +146,12 @@ abbrev pub prefix_11 : Attr → List ℕ
 prefix_11 o = wants has_members o
 
 -- what a print shows, and what a String is compared with
-abbrev pub library_11 : Env → Attr → Ident → List Attr → Option Denotation → List ℕ
+abbrev pub library_11 : Environment → Attr → Ident → List Attr → Option Denotation → List ℕ
 library_11 env o m (x ∷ []) (Some denotes.Output) = if is_print m.name then wants is_printed x else []
 library_11 env o m (x ∷ []) (Some (denotes.Value t)) = if is_string t && same_name m.name equals_name then wants_type env ty.Text x else prefix_11 o
 library_11 env o m xs d = prefix_11 o
 
-abbrev pub new_11 : Env → List Attr → ℕ → List ℕ
+abbrev pub new_11 : Environment → List Attr → ℕ → List ℕ
 new_11 env xs class = option_map_or (λ m. wants_each env xs m.params) (maker_of env class (length xs)) []
 
 abbrev pub unary_11 : UnaryOp → Attr → List ℕ
@@ -165,14 +166,14 @@ abbrev pub bitwise_11 : Attr → Attr → List ℕ
 bitwise_11 l r = option_map_or (λ t. if is_boolean t then wants is_boolean r else both_11 is_int l r) (value_type l.denotes) []
 
 -- two values of which one can be assigned to the other's type; Strings are for rule 16
-abbrev pub equality_11 : Env → Attr → Attr → List ℕ
+abbrev pub equality_11 : Environment → Attr → Attr → List ℕ
 equality_11 env l r = of_types (λ a b. unless (is_string a || (is_string b || is_either_way env.symbols a b)) l.at) l r
 
 -- two ints, or a String and another value
 abbrev pub sum_11 : Attr → Attr → List ℕ
 sum_11 l r = of_types (λ a b. if is_string a || is_string b then [] else both_11 is_int l r) l r
 
-abbrev pub binary_11 : Env → BinaryOp → Attr → Attr → List ℕ
+abbrev pub binary_11 : Environment → BinaryOp → Attr → Attr → List ℕ
 binary_11 env binary.Or l r = both_11 is_boolean l r
 binary_11 env binary.And l r = both_11 is_boolean l r
 binary_11 env binary.BitOr l r = bitwise_11 l r
@@ -184,10 +185,10 @@ binary_11 env binary.Add l r = sum_11 l r
 binary_11 env _ l r = both_11 is_int l r
 
 -- the third operand, where neither it nor the second can be assigned to the other's type
-abbrev pub choice_11 : Env → Attr → Attr → List ℕ
+abbrev pub choice_11 : Environment → Attr → Attr → List ℕ
 choice_11 env a b = of_types (λ t u. unless (is_either_way env.symbols t u) b.at) a b
 
-abbrev pub rule_11 : Env → Scope → Node → List ℕ
+abbrev pub rule_11 : Environment → Scope → Node → List ℕ
 rule_11 env s (Expr-F.Call m xs) = option_map_or (calling_11 env) (calling env s (Expr-F.Call m xs)) []
 rule_11 env s (Expr-F.Super at m xs) = option_map_or (calling_11 env) (calling env s (Expr-F.Super at m xs)) []
 rule_11 env s (Expr-F.New at c xs) = option_map_or (new_11 env xs) (class_named env c.name) []
@@ -203,7 +204,7 @@ rule_11 env s _ = []
 
 -- ---- 12: a method or constructor of that name exists, and none with this number of arguments
 
-abbrev pub calling_12 : Env → Calling → List ℕ
+abbrev pub calling_12 : Environment → Calling → List ℕ
 calling_12 env k = only_if (has_method env k.class k.name.name && is_none (method_at env k)) k.name.at
 
 -- `println` takes at most one argument, `print` one
@@ -220,7 +221,7 @@ library_12 m xs (Some denotes.Output) = if is_print m.name then print_12 m xs el
 library_12 m xs (Some (denotes.Value t)) = if is_string t then text_12 m xs else []
 library_12 m xs _ = []
 
-abbrev pub rule_12 : Env → Scope → Node → List ℕ
+abbrev pub rule_12 : Environment → Scope → Node → List ℕ
 rule_12 env s (Expr-F.Call m xs) = option_map_or (calling_12 env) (calling env s (Expr-F.Call m xs)) []
 rule_12 env s (Expr-F.Super at m xs) = option_map_or (calling_12 env) (calling env s (Expr-F.Super at m xs)) []
 rule_12 env s (Expr-F.Method o m xs) = option_map_or (calling_12 env) (calling env s (Expr-F.Method o m xs)) (library_12 m xs o.denotes)
@@ -229,16 +230,16 @@ rule_12 env s _ = []
 
 -- ---- 13: a private member is named outside its class
 
-abbrev pub naming_13 : Env → Scope → Naming → List ℕ
+abbrev pub naming_13 : Environment → Scope → Naming → List ℕ
 naming_13 env s k = option_map_or (λ m. unless (is_accessible s.class m.owner m.is_private) k.name.at) (member_at env k) []
 
-abbrev pub calling_13 : Env → Scope → Calling → List ℕ
+abbrev pub calling_13 : Environment → Scope → Calling → List ℕ
 calling_13 env s k = option_map_or (λ m. unless (is_accessible s.class m.owner m.is_private) k.name.at) (method_at env k) []
 
-abbrev pub new_13 : Env → Scope → Ident → List Attr → ℕ → List ℕ
+abbrev pub new_13 : Environment → Scope → Ident → List Attr → ℕ → List ℕ
 new_13 env s c xs class = option_map_or (λ m. unless (is_accessible s.class class m.is_private) c.at) (maker_of env class (length xs)) []
 
-abbrev pub rule_13 : Env → Scope → Node → List ℕ
+abbrev pub rule_13 : Environment → Scope → Node → List ℕ
 rule_13 env s (Expr-F.Name x) = option_map_or (naming_13 env s) (naming env s (Expr-F.Name x)) []
 rule_13 env s (Expr-F.Field o f) = option_map_or (naming_13 env s) (naming env s (Expr-F.Field o f)) []
 rule_13 env s (Expr-F.Call m xs) = option_map_or (calling_13 env s) (calling env s (Expr-F.Call m xs)) []
@@ -249,13 +250,13 @@ rule_13 env s _ = []
 
 -- ---- 14: `this`, `super` or an instance member in a static method or constant
 
-abbrev pub naming_14 : Env → Scope → Naming → List ℕ
+abbrev pub naming_14 : Environment → Scope → Naming → List ℕ
 naming_14 env s k = only_if (s.is_static && (needs_this k.through && option_map_or (λ m. is_some m.place) (member_at env k) false)) k.name.at
 
-abbrev pub calling_14 : Env → Scope → Calling → List ℕ
+abbrev pub calling_14 : Environment → Scope → Calling → List ℕ
 calling_14 env s k = only_if (s.is_static && (needs_this k.through && option_map_or (λ m. not m.is_static) (method_at env k) false)) k.name.at
 
-abbrev pub rule_14 : Env → Scope → Node → List ℕ
+abbrev pub rule_14 : Environment → Scope → Node → List ℕ
 rule_14 env s (Expr-F.This at) = only_if s.is_static at
 rule_14 env s (Expr-F.Super at m xs) = only_if s.is_static at
 rule_14 env s (Expr-F.Name x) = option_map_or (naming_14 env s) (naming env s (Expr-F.Name x)) []
@@ -266,11 +267,11 @@ rule_14 env s _ = []
 
 -- ---- 15: a cast or `instanceof` between types neither of which is assignable to the other, or to String
 
-abbrev pub cast_15 : Env → ℕ → Option Ty → Attr → List ℕ
+abbrev pub cast_15 : Environment → ℕ → Option Ty → Attr → List ℕ
 cast_15 env at to e =
     option_map_or (λ t. if is_string t then at ∷ [] else option_map_or (λ from. unless (is_either_way env.symbols from t) at) (value_type e.denotes) []) to []
 
-abbrev pub rule_15 : Env → Node → List ℕ
+abbrev pub rule_15 : Environment → Node → List ℕ
 rule_15 env (Expr-F.Cast at t e) = cast_15 env at (type_named env t) e
 rule_15 env (Expr-F.InstanceOf e t) = cast_15 env e.at (type_named env t) e
 rule_15 env _ = []
@@ -318,7 +319,7 @@ broken_below (Expr-F.Conditional c a b) = value_faults c ++ (value_faults a ++ v
 broken_below _ = []
 
 -- what the node itself breaks
-abbrev pub broken_here : Env → Scope → Node → List Fault
+abbrev pub broken_here : Environment → Scope → Node → List Fault
 broken_here env s n =
     of_rule 10 (rule_10 env s n) (of_rule 11 (rule_11 env s n) (of_rule 12 (rule_12 env s n) (of_rule 13 (rule_13 env s n)
     (of_rule 14 (rule_14 env s n) (of_rule 15 (rule_15 env n) (of_rule 16 (rule_16 n) (of_rule 19 (rule_19 n) (of_rule 21 (rule_21 n) []))))))))

@@ -2,12 +2,14 @@
 #![tactic(auto)]
 
 mod constants;
+mod environment;
 mod folded;
 mod literal;
 mod through;
 mod typed;
 
 pub use constants::Constants;
+pub use environment::Environment;
 pub use folded::Folded;
 pub use literal::Literal;
 pub use through::Through;

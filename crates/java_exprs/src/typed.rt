@@ -33,8 +33,6 @@ pub enum Form {
     Constant(u32),
     /// A call or a `new` of an object, which may stand as a statement (JLS 14.8).
     Call,
-    /// The number 2147483648, which only a minus may stand before (JLS 3.10.1).
-    NeedsMinus,
     Other,
 }
 
@@ -45,6 +43,8 @@ pub struct Typed {
     pub at: u32,
     pub denotes: Denotation,
     pub form: Form,
+    /// Whether it is the number 2147483648, which only stands behind a minus (JLS 3.10.1).
+    pub needs_minus: bool,
     /// The resolved expression. Where it denotes no value and isn't called, it means nothing.
     pub core: Expr,
 }

@@ -25,13 +25,13 @@ use Rattle.java_names.specs.declared.symbol.MakerSymbol.{MakerSymbol}
 use Rattle.java_names.specs.declared.scope.Scope.{Scope}
 use Rattle.java_names.specs.Scope.{first_scope, declared, left}
 use Rattle.java_names.specs.Types.{arrays}
+use Rattle.java_exprs.specs.declared.environment.Environment.{Environment}
 use Rattle.java_exprs.specs.declared.typed.Denotation.{Denotation}
 use Rattle.java_exprs.specs.declared.typed.Denotation.TheVariants as denotes
 use Rattle.java_exprs.specs.declared.typed.Form.{Form}
 use Rattle.java_exprs.specs.declared.typed.Form.TheVariants as form
 use Rattle.java_exprs.specs.declared.folded.Folded.TheVariants as folded
 use Rattle.java_exprs.specs.Attr.{Attr}
-use Rattle.java_exprs.specs.Lookups.{Env}
 use Rattle.java_exprs.proofs.TypeLemmas.{assignable-Text}
 use Rattle.java_exprs.proofs.AttrLemmas.{attr_number, attr_bool}
 use Rattle.java_types.specs.Effects.{Part, StmtNode, sequence, inner}
@@ -43,7 +43,7 @@ use Rattle.java_types.specs.Bodies.{parent_faults}
 -- ---- what the rows speak of
 
 abbrev part : Denotation → Form → ℕ → Attr
-part d f at = record { at = at; denotes = Some d; form = f; core = core.Null; faults = [] }
+part d f at = record { at = at; denotes = Some d; form = f; needs_minus = false; core = core.Null; faults = [] }
 
 abbrev variable : Ty → ℕ → Attr
 variable t = part (denotes.Value t) form.Variable
@@ -84,7 +84,7 @@ class_b = record {
   at = 6;
 }
 
-abbrev env : Env
+abbrev env : Environment
 env = record {
   symbols = record { names = codes "A" ∷ codes "B" ∷ []; classes = class_a ∷ class_b ∷ []; selectors = [] };
   constants = [];

@@ -23,8 +23,9 @@ use Rattle.java_names.specs.declared.scope.Scope.{Scope}
 use Rattle.java_names.specs.Lookups.{is_below}
 use Rattle.java_names.specs.Scope.{first_scope, declared}
 use Rattle.java_names.specs.Types.{declared_type, answer_type}
+use Rattle.java_exprs.specs.declared.environment.Environment.{Environment}
 use Rattle.java_exprs.specs.Attr.{unless, only_if, of_rule}
-use Rattle.java_exprs.specs.Lookups.{Env, class_named, type_named, unknown_type}
+use Rattle.java_exprs.specs.Lookups.{class_named, type_named, unknown_type}
 use Rattle.java_types.specs.Statements.{again_10}
 
 -- ---- 20 (1) to (5): modifiers (JLS 8.3.1, 8.4.3, 8.8.3); at the name
@@ -79,36 +80,36 @@ method_words_20 mods at = only_if (is_final mods) at ++ words_20 mods at
 abbrev pub is_constant_type : Ty → Bool
 is_constant_type t = is_int t || (is_boolean t || is_string t)
 
-abbrev pub constant_type_20 : Env → FieldTree → List ℕ
+abbrev pub constant_type_20 : Environment → FieldTree → List ℕ
 constant_type_20 env f = only_if (is_static f.mods && option_map_or (λ t. not (is_constant_type t)) (type_named env f.ty) false) f.name.at
 
 -- ---- 10 and 11: types, parameters and `throws`
 
 -- a parameter is a local, and has its name alone
-abbrev pub with_param : Env → ParamTree → Scope → Scope
+abbrev pub with_param : Environment → ParamTree → Scope → Scope
 with_param env p s = declared s p.name.name (declared_type env.symbols.names p.ty)
 
-unfoldable pub with_params : Env → List ParamTree → Scope → Scope
+unfoldable pub with_params : Environment → List ParamTree → Scope → Scope
 with_params env [] s = s
 with_params env (p ∷ ps) s = with_params env ps (with_param env p s)
 
-unfoldable pub params_10 : Env → List ParamTree → Scope → List ℕ
+unfoldable pub params_10 : Environment → List ParamTree → Scope → List ℕ
 params_10 env [] s = []
 params_10 env (p ∷ ps) s = (unknown_type env p.ty ++ again_10 s p.name) ++ params_10 env ps (with_param env p s)
 
-abbrev pub answer_10 : Env → Option TypeTree → List ℕ
+abbrev pub answer_10 : Environment → Option TypeTree → List ℕ
 answer_10 env t = option_map_or (unknown_type env) t []
 
 -- a class behind `throws` is known
-abbrev pub thrown_10 : Env → Ident → List ℕ
+abbrev pub thrown_10 : Environment → Ident → List ℕ
 thrown_10 env c = unless (is_some (class_named env c.name)) c.at
 
 -- and at or below Throwable
-abbrev pub thrown_11 : Env → Ident → List ℕ
+abbrev pub thrown_11 : Environment → Ident → List ℕ
 thrown_11 env c = option_map_or (λ class. unless (is_below env.symbols class 1) c.at) (class_named env c.name) []
 
 -- the scope of a method's body, without and with its parameters
-abbrev pub method_scope : Env → ℕ → MethodTree → Scope
+abbrev pub method_scope : Environment → ℕ → MethodTree → Scope
 method_scope env c m = first_scope c (is_static m.mods) (answer_type env.symbols.names m.answer)
 
 -- the scope of a constructor's body, and of an instance field's initialiser, which has no parameters
@@ -119,23 +120,23 @@ maker_scope c = first_scope c false ty.Void
 abbrev pub constant_scope : ℕ → Scope
 constant_scope c = first_scope c true ty.Void
 
-abbrev pub declared_10 : Env → ℕ → Member → List ℕ
+abbrev pub declared_10 : Environment → ℕ → Member → List ℕ
 declared_10 env c (member.Field f) = unknown_type env f.ty
 declared_10 env c (member.Method m) = answer_10 env m.answer ++ (params_10 env m.params (method_scope env c m) ++ flat_map (thrown_10 env) m.throws)
 declared_10 env c (member.Maker m) = params_10 env m.params (maker_scope c) ++ flat_map (thrown_10 env) m.throws
 declared_10 env c member.Empty = []
 
-abbrev pub declared_11 : Env → Member → List ℕ
+abbrev pub declared_11 : Environment → Member → List ℕ
 declared_11 env (member.Method m) = flat_map (thrown_11 env) m.throws
 declared_11 env (member.Maker m) = flat_map (thrown_11 env) m.throws
 declared_11 env _ = []
 
-abbrev pub declared_20 : Env → Member → List ℕ
+abbrev pub declared_20 : Environment → Member → List ℕ
 declared_20 env (member.Field f) = field_words_20 f.mods f.name.at ++ constant_type_20 env f
 declared_20 env (member.Method m) = method_words_20 m.mods m.name.at
 declared_20 env (member.Maker m) = maker_words_20 m.mods m.name.at
 declared_20 env member.Empty = []
 
 -- what the declaration of a member of class c breaks
-abbrev pub declaration_faults : Env → ℕ → Member → List Fault
+abbrev pub declaration_faults : Environment → ℕ → Member → List Fault
 declaration_faults env c m = of_rule 10 (declared_10 env c m) (of_rule 11 (declared_11 env m) (of_rule 20 (declared_20 env m) []))

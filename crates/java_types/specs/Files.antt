@@ -21,7 +21,7 @@ use Rattle.class_table.specs.Rules.{is_main}
 use Rattle.java_names.specs.Symbols.{symbols_of}
 use Rattle.java_names.specs.Lookups.{line_of}
 use Rattle.java_names.specs.Chosen.{chosen_of}
-use Rattle.java_exprs.specs.Lookups.{Env}
+use Rattle.java_exprs.specs.declared.environment.Environment.{Environment}
 use Rattle.java_types.specs.Declarations.{declaration_faults}
 use Rattle.java_types.specs.Constants.{Reading, read_classes, with_constants}
 use Rattle.java_types.specs.Bodies.{field_faults, method_effects, maker_faults, parent_faults, core_field, core_method, core_maker, made_maker}
@@ -33,7 +33,7 @@ first_class = 18
 -- ---- what is known before the bodies are read
 
 -- without constants
-abbrev pub first_env : ClassTable → FileTree → Env
+abbrev pub first_env : ClassTable → FileTree → Environment
 first_env table tree = record { symbols = symbols_of table; constants = []; places = tree.places }
 
 -- the constants of the file
@@ -41,7 +41,7 @@ abbrev pub reading_of : ClassTable → FileTree → Reading
 reading_of table tree = read_classes (first_env table tree) first_class tree.classes (record { constants = []; faults = [] })
 
 -- with all constants
-abbrev pub env_of : ClassTable → FileTree → Env
+abbrev pub env_of : ClassTable → FileTree → Environment
 env_of table tree = with_constants (first_env table tree) (reading_of table tree).constants
 
 -- ---- members, class by class
@@ -67,14 +67,14 @@ of_made give c (k ∷ ks) = where_none (flat_map is_maker k.members) (give c k) 
 -- ---- faults
 
 -- what the initialiser or the body of a member breaks; constants are read before
-abbrev pub member_faults : Env → ℕ → Member → List Fault
+abbrev pub member_faults : Environment → ℕ → Member → List Fault
 member_faults env c (member.Field f) = if is_static f.mods then [] else field_faults env c f
 member_faults env c (member.Method m) = (method_effects env c m).faults
 member_faults env c (member.Maker m) = maker_faults env c m
 member_faults env c member.Empty = []
 
 -- a class without a constructor needs that of its superclass without parameters; at the class's name
-abbrev pub made_faults : Env → ℕ → ClassTree → List Fault
+abbrev pub made_faults : Environment → ℕ → ClassTree → List Fault
 made_faults env c k = parent_faults env c k.name.at []
 
 abbrev pub declared_faults : ClassTable → FileTree → List Fault
@@ -96,12 +96,12 @@ faults_of table tree = then_faults (declared_faults table tree) (body_faults tab
 
 -- ---- the resolved program
 
-abbrev pub own_field : Env → ℕ → Member → List Field
+abbrev pub own_field : Environment → ℕ → Member → List Field
 own_field env c (member.Field f) = if is_static f.mods then [] else core_field env c f ∷ []
 own_field env c _ = []
 
 -- the instance fields that each class of the file declares itself, from number c on
-unfoldable pub own_fields : Env → ℕ → List ClassTree → List (List Field)
+unfoldable pub own_fields : Environment → ℕ → List ClassTree → List (List Field)
 own_fields env c [] = []
 own_fields env c (k ∷ ks) = flat_map (own_field env c) k.members ∷ own_fields env (suc c) ks
 
@@ -114,25 +114,25 @@ built_in_fields =
     no_fields ∷ (message_field ∷ []) ∷ no_fields ∷ no_fields ∷ no_fields ∷ no_fields ∷ no_fields ∷ no_fields ∷ no_fields
     ∷ no_fields ∷ no_fields ∷ no_fields ∷ no_fields ∷ no_fields ∷ no_fields ∷ no_fields ∷ no_fields ∷ no_fields ∷ []
 
-abbrev pub all_own_fields : Env → FileTree → List (List Field)
+abbrev pub all_own_fields : Environment → FileTree → List (List Field)
 all_own_fields env tree = built_in_fields ++ own_fields env first_class tree.classes
 
 -- the fields of a class, those of the highest class of its line first
-abbrev pub fields_of : Env → FileTree → ℕ → List Field
+abbrev pub fields_of : Environment → FileTree → ℕ → List Field
 fields_of env tree c = flat_map (λ d. unwrap_or (slice_get (all_own_fields env tree) d) []) (reverse (line_of env.symbols c))
 
-abbrev pub core_class : Env → FileTree → ℕ → ClassRow → Class
+abbrev pub core_class : Environment → FileTree → ℕ → ClassRow → Class
 core_class env tree c row = record { name = row.name; parent = row.parent; fields = fields_of env tree c; chosen = chosen_of env.symbols c }
 
-unfoldable pub core_classes : Env → FileTree → ℕ → List ClassRow → List Class
+unfoldable pub core_classes : Environment → FileTree → ℕ → List ClassRow → List Class
 core_classes env tree c [] = []
 core_classes env tree c (row ∷ rows) = core_class env tree c row ∷ core_classes env tree (suc c) rows
 
-abbrev pub own_method : Env → ℕ → Member → List Method
+abbrev pub own_method : Environment → ℕ → Member → List Method
 own_method env c (member.Method m) = core_method env c m ∷ []
 own_method env c _ = []
 
-abbrev pub own_maker : Env → ℕ → Member → List Maker
+abbrev pub own_maker : Environment → ℕ → Member → List Maker
 own_maker env c (member.Maker m) = core_maker env c m ∷ []
 own_maker env c _ = []
 
@@ -148,7 +148,7 @@ method_trees tree = flat_map (λ k. flat_map method_tree k.members) tree.classes
 abbrev pub main_of : FileTree → ℕ
 main_of tree = unwrap_or (position (λ m. is_main (method_row m)) (method_trees tree)) 0
 
-abbrev pub program_in : Env → ClassTable → FileTree → Program
+abbrev pub program_in : Environment → ClassTable → FileTree → Program
 program_in env table tree = record {
   classes = core_classes env tree 0 table.classes;
   methods = of_members (own_method env) first_class tree.classes;

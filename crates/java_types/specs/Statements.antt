@@ -32,12 +32,13 @@ use Rattle.java_names.specs.declared.scope.Scope.{Scope}
 use Rattle.java_names.specs.Lookups.{is_below}
 use Rattle.java_names.specs.Scope.{declared, left}
 use Rattle.java_names.specs.Types.{declared_type}
+use Rattle.java_exprs.specs.declared.environment.Environment.{Environment}
 use Rattle.java_exprs.specs.declared.typed.Denotation.{Denotation}
 use Rattle.java_exprs.specs.declared.typed.Denotation.TheVariants as denotes
 use Rattle.java_exprs.specs.declared.typed.Form.{Form}
 use Rattle.java_exprs.specs.declared.typed.Form.TheVariants as form
 use Rattle.java_exprs.specs.Attr.{Attr, value_type, unless, only_if, of_rule, value_faults, values_faults, statement_faults}
-use Rattle.java_exprs.specs.Lookups.{Env, class_named, local_named, unknown_type}
+use Rattle.java_exprs.specs.Lookups.{class_named, local_named, unknown_type}
 use Rattle.java_exprs.specs.Rules.{wants, wants_type, both_11, bitwise_11, of_types}
 use Rattle.java_exprs.specs.Checks.{attr}
 use Rattle.java_types.specs.Effects.{Effect, CatchEffect, Part, CatchPart, StmtNode, CatchNode, sequence, clauses, inner, looped, branch}
@@ -45,15 +46,15 @@ use Rattle.java_types.specs.Effects.{Effect, CatchEffect, Part, CatchPart, StmtN
 -- ---- scopes
 
 -- the type of a local; `Void` where its name is unknown
-abbrev pub local_type : Env → LocalTree → Ty
+abbrev pub local_type : Environment → LocalTree → Ty
 local_type env t = declared_type env.symbols.names t.ty
 
 -- a local is in scope in its own initialiser
-abbrev pub with_local : Env → LocalTree → Scope → Scope
+abbrev pub with_local : Environment → LocalTree → Scope → Scope
 with_local env t s = declared s t.name.name (local_type env t)
 
 -- the class that a catch clause takes; `Void` where its name is unknown
-abbrev pub caught_type : Env → Ident → Ty
+abbrev pub caught_type : Environment → Ident → Ty
 caught_type env c = option_map_or ty.Class (class_named env c.name) ty.Void
 
 -- the scopes of a `for`: behind its start, behind its updates, and behind its body (JLS 14.14.1)
@@ -63,7 +64,7 @@ started start s = (sequence start s).after
 abbrev pub updated : List Part → List Part → Scope → Scope
 updated start update s = (sequence update (started start s)).after
 
-abbrev pub after_of : Env → StmtNode → Scope → Scope
+abbrev pub after_of : Environment → StmtNode → Scope → Scope
 after_of env (Stmt-F.Block all) s = left s (sequence all s).after
 after_of env (Stmt-F.Local t) s = with_local env t s
 after_of env (Stmt-F.If c body other) s = (branch other (inner body s).after).after
@@ -113,10 +114,10 @@ evaluated core (Some (denotes.Print p)) = step.Print p.ends_line (if p.has_argum
 evaluated core _ = step.Eval core
 
 -- an expression that may be left out
-abbrev pub optional_core : Env → Scope → Option Expr → Option Core
+abbrev pub optional_core : Environment → Scope → Option Expr → Option Core
 optional_core env s e = option_map (λ it. (attr env s it).core) e
 
-abbrev pub step_of : Env → StmtNode → Scope → Step
+abbrev pub step_of : Environment → StmtNode → Scope → Step
 step_of env Stmt-F.Empty s = step.Empty
 step_of env (Stmt-F.Block all) s = view.Block (sequence all s).steps
 step_of env (Stmt-F.Local t) s = step.Declare (length s.slots) (local_type env t) (optional_core env (with_local env t s) t.value)
@@ -141,24 +142,24 @@ step_of env (Stmt-F.Try body catches last) s =
 abbrev pub again_10 : Scope → Ident → List ℕ
 again_10 s x = unless (is_none (local_named s x.name)) x.at
 
-abbrev pub stmt_10 : Env → StmtNode → Scope → List ℕ
+abbrev pub stmt_10 : Environment → StmtNode → Scope → List ℕ
 stmt_10 env (Stmt-F.Local t) s = unknown_type env t.ty ++ again_10 s t.name
 stmt_10 env _ s = []
 
-abbrev pub catch_10 : Env → CatchNode → Scope → List ℕ
+abbrev pub catch_10 : Environment → CatchNode → Scope → List ℕ
 catch_10 env c s = unless (is_some (class_named env c.class.name)) c.class.at ++ again_10 s c.name
 
 -- ---- 11: a type doesn't fit
 
 -- a condition
-abbrev pub condition_11 : Env → Scope → Expr → List ℕ
+abbrev pub condition_11 : Environment → Scope → Expr → List ℕ
 condition_11 env s c = wants is_boolean (attr env s c)
 
 -- a String takes what concatenation joins, but for instances and arrays, which are for rule 21; other variables take ints
 abbrev pub sum_11 : Attr → Attr → List ℕ
 sum_11 a e = of_types (λ t u. if is_string t || (is_object t && is_string u) then [] else both_11 is_int a e) a e
 
-abbrev pub assign_11 : Env → AssignOp → Attr → Attr → List ℕ
+abbrev pub assign_11 : Environment → AssignOp → Attr → Attr → List ℕ
 assign_11 env assign.Assign a e = option_map_or (λ t. wants_type env t e) (value_type a.denotes) []
 assign_11 env assign.Add a e = sum_11 a e
 assign_11 env assign.BitAnd a e = bitwise_11 a e
@@ -167,7 +168,7 @@ assign_11 env assign.BitXor a e = bitwise_11 a e
 assign_11 env _ a e = both_11 is_int a e
 
 -- a method with a result returns a value that fits it, any other body returns none
-abbrev pub return_11 : Env → ℕ → Option Expr → Scope → List ℕ
+abbrev pub return_11 : Environment → ℕ → Option Expr → Scope → List ℕ
 return_11 env at None s = unless (is_void s.answer) at
 return_11 env at (Some e) s = if is_void s.answer then (attr env s e).at ∷ [] else wants_type env s.answer (attr env s e)
 
@@ -175,7 +176,7 @@ return_11 env at (Some e) s = if is_void s.answer then (attr env s e).at ∷ [] 
 abbrev pub throwable : Ty
 throwable = ty.Class 1
 
-abbrev pub stmt_11 : Env → StmtNode → Scope → List ℕ
+abbrev pub stmt_11 : Environment → StmtNode → Scope → List ℕ
 stmt_11 env (Stmt-F.Local t) s = option_map_or (λ e. wants_type env (local_type env t) (attr env (with_local env t s) e)) t.value []
 stmt_11 env (Stmt-F.Assign a op e) s = assign_11 env op (attr env s a) (attr env s e)
 stmt_11 env (Stmt-F.Step op side a) s = wants is_int (attr env s a)
@@ -188,7 +189,7 @@ stmt_11 env (Stmt-F.Throw e) s = wants_type env throwable (attr env s e)
 stmt_11 env _ s = []
 
 -- a catch clause takes a class at or below Throwable
-abbrev pub catch_11 : Env → CatchNode → List ℕ
+abbrev pub catch_11 : Environment → CatchNode → List ℕ
 catch_11 env c = option_map_or (λ class. unless (is_below env.symbols class 1) c.class.at) (class_named env c.class.name) []
 
 -- ---- 14: `super(..)` other than as the first statement of a constructor; that one is read with the constructor
@@ -219,7 +220,7 @@ is_target _ = false
 abbrev pub target_18 : Attr → List ℕ
 target_18 a = unless (is_target a.form) a.at
 
-abbrev pub stmt_18 : Env → StmtNode → Scope → List ℕ
+abbrev pub stmt_18 : Environment → StmtNode → Scope → List ℕ
 stmt_18 env (Stmt-F.Assign a op e) s = target_18 (attr env s a)
 stmt_18 env (Stmt-F.Step op side a) s = target_18 (attr env s a)
 stmt_18 env (Stmt-F.Eval e) s = unless (is_call (attr env s e).form) (attr env s e).at
@@ -231,7 +232,7 @@ abbrev pub constant_20 : Form → List ℕ
 constant_20 (form.Constant at) = at ∷ []
 constant_20 _ = []
 
-abbrev pub stmt_20 : Env → StmtNode → Scope → List ℕ
+abbrev pub stmt_20 : Environment → StmtNode → Scope → List ℕ
 stmt_20 env (Stmt-F.Assign a op e) s = constant_20 (attr env s a).form
 stmt_20 env (Stmt-F.Step op side a) s = constant_20 (attr env s a).form
 stmt_20 env _ s = []
@@ -241,22 +242,22 @@ stmt_20 env _ s = []
 abbrev pub sum_21 : Attr → Attr → List ℕ
 sum_21 a e = of_types (λ t u. only_if ((is_string t && is_object u) || (is_object t && is_string u)) a.at) a e
 
-abbrev pub stmt_21 : Env → StmtNode → Scope → List ℕ
+abbrev pub stmt_21 : Environment → StmtNode → Scope → List ℕ
 stmt_21 env (Stmt-F.Assign a assign.Add e) s = sum_21 (attr env s a) (attr env s e)
 stmt_21 env _ s = []
 
 -- ---- all that is broken
 
-abbrev pub stmt_broken_here : Env → StmtNode → Scope → List Fault
+abbrev pub stmt_broken_here : Environment → StmtNode → Scope → List Fault
 stmt_broken_here env n s =
     of_rule 10 (stmt_10 env n s) (of_rule 11 (stmt_11 env n s) (of_rule 14 (stmt_14 n) (of_rule 17 (stmt_17 n s)
     (of_rule 18 (stmt_18 env n s) (of_rule 20 (stmt_20 env n s) (of_rule 21 (stmt_21 env n s) []))))))
 
 -- in a value that may be left out
-abbrev pub optional_faults : Env → Scope → Option Expr → List Fault
+abbrev pub optional_faults : Environment → Scope → Option Expr → List Fault
 optional_faults env s e = option_map_or (λ it. value_faults (attr env s it)) e []
 
-abbrev pub stmt_broken_below : Env → StmtNode → Scope → List Fault
+abbrev pub stmt_broken_below : Environment → StmtNode → Scope → List Fault
 stmt_broken_below env (Stmt-F.Block all) s = (sequence all s).faults
 stmt_broken_below env (Stmt-F.Local t) s = optional_faults env (with_local env t s) t.value
 stmt_broken_below env (Stmt-F.Assign a op e) s = value_faults (attr env s a) ++ value_faults (attr env s e)
@@ -274,14 +275,14 @@ stmt_broken_below env (Stmt-F.Try body catches last) s =
     (inner body s).faults ++ ((clauses catches (inner body s).after).faults ++ (branch last (clauses catches (inner body s).after).after).faults)
 stmt_broken_below env _ s = []
 
-abbrev pub effect_at : Env → StmtNode → Part
+abbrev pub effect_at : Environment → StmtNode → Part
 effect_at env n s = record { after = after_of env n s; step = step_of env n s; faults = stmt_broken_below env n s ++ stmt_broken_here env n s }
 
 -- the scope of a catch clause's block
-abbrev pub with_caught : Env → CatchNode → Scope → Scope
+abbrev pub with_caught : Environment → CatchNode → Scope → Scope
 with_caught env c s = declared s c.name.name (caught_type env c.class)
 
-abbrev pub catch_at : Env → CatchNode → CatchPart
+abbrev pub catch_at : Environment → CatchNode → CatchPart
 catch_at env c s = record {
   after = left s (c.body (with_caught env c s)).after;
   handler = record { class = unwrap_or (class_named env c.class.name) 0; slot = length s.slots; body = (c.body (with_caught env c s)).step };
@@ -289,8 +290,8 @@ catch_at env c s = record {
 }
 
 -- what is known of a statement, and of a catch clause
-unfoldable pub effect : Env → Stmt → Part
+unfoldable pub effect : Environment → Stmt → Part
 effect env = fold-Stmt Part CatchPart (effect_at env) (catch_at env)
 
-unfoldable pub catch_effect : Env → CatchTree → CatchPart
+unfoldable pub catch_effect : Environment → CatchTree → CatchPart
 catch_effect env = fold-CatchTree Part CatchPart (effect_at env) (catch_at env)

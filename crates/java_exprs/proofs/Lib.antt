@@ -1,3 +1,4 @@
+pub mod TypeForms
 pub mod TypeLemmas
 pub mod AttrLemmas
 pub mod Rows

@@ -4,6 +4,7 @@
 mod constants;
 mod environment;
 mod folded;
+mod forms;
 mod literal;
 mod through;
 mod typed;

@@ -1,6 +1,7 @@
 //! Expressions of a file, checked and resolved.
 #![tactic(auto)]
 
+mod assignability;
 mod constants;
 mod environment;
 mod folded;

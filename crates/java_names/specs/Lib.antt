@@ -1,5 +1,7 @@
 pub mod Numbering
 pub mod Types
+pub mod BuiltIn
+pub mod Numbers
 pub mod Selectors
 pub mod Symbols
 pub mod Lookups

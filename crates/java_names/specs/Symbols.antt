@@ -1,5 +1,5 @@
 -- The symbols of a class table: what the classes of a program declare, with numbers and resolved types.
-use Rattle.std.specs.Prelude.{ℕ, ◌+◌, ◌==◌, Bool, true, false, List, [], ◌∷◌, map, filter, length, Option, Some, None, option_map, nat_lt, if◌then◌else◌}
+use Rattle.std.specs.Prelude.{ℕ, ◌+◌, ◌==◌, Bool, true, false, List, [], ◌∷◌, ◌++◌, map, filter, length, Option, Some, None, option_map, if◌then◌else◌}
 use Rattle.std.specs.List.{filter_map}
 use Rattle.class_table.specs.declared.row.ClassTable.{ClassTable}
 use Rattle.class_table.specs.declared.row.ClassRow.{ClassRow}
@@ -17,13 +17,11 @@ use Rattle.java_names.specs.declared.symbol.Methods.{Methods}
 use Rattle.java_names.specs.declared.symbol.Makers.{Makers}
 use Rattle.java_names.specs.declared.symbol.ClassSymbol.{ClassSymbol}
 use Rattle.java_names.specs.declared.symbol.Symbols.{Symbols}
-use Rattle.java_names.specs.declared.classes.Numbers.{Numbers}
+use Rattle.java_names.specs.declared.numbers.Numbers.{Numbers}
+use Rattle.java_names.specs.BuiltIn.{needs_maker, in_file}
+use Rattle.java_names.specs.Numbers.{numbers_after, first_numbers}
 use Rattle.java_names.specs.Types.{declared_type, declared_types, answer_type}
 use Rattle.java_names.specs.Selectors.{selector_of, selectors_of, selector_number}
-
--- the classes with these numbers are built in
-abbrev pub is_built_in : ℕ → Bool
-is_built_in c = nat_lt c 18
 
 -- the known classes behind `throws`
 abbrev pub thrown : List Name → List Name → List ℕ
@@ -43,6 +41,11 @@ abbrev pub field_symbol : List Name → FieldRow → FieldSymbol
 field_symbol names f =
     record { owner = f.owner; name = f.name; ty = declared_type names f.ty; place = f.place; is_private = is_private f.mods; at = f.at }
 
+-- fields, with some more behind them
+abbrev pub with_fields : List Name → Fields → List FieldRow → Fields
+with_fields names fields rows =
+    record { symbols = fields.symbols ++ map (field_symbol names) rows; names = fields.names ++ map (λ f. f.name) rows }
+
 abbrev pub fields_of : List Name → List FieldRow → Fields
 fields_of names rows = record { symbols = map (field_symbol names) rows; names = map (λ f. f.name) rows }
 
@@ -58,9 +61,16 @@ method_symbols names selectors owner number [] = []
 method_symbols names selectors owner number (m ∷ more) =
     method_symbol names selectors owner number m ∷ method_symbols names selectors owner (following number) more
 
+-- what they are called by
+abbrev pub selectors_in : List MethodRow → List Selector
+selectors_in rows = map selector_of rows
+
+abbrev pub method_names : List MethodRow → List Name
+method_names rows = map (λ m. m.name) rows
+
 abbrev pub methods_of : List Name → List Selector → ℕ → Option ℕ → List MethodRow → Methods
 methods_of names selectors owner number rows =
-    record { symbols = method_symbols names selectors owner number rows; selectors = map selector_of rows; names = map (λ m. m.name) rows }
+    record { symbols = method_symbols names selectors owner number rows; selectors = selectors_in rows; names = method_names rows }
 
 -- ---- constructors
 
@@ -77,23 +87,17 @@ maker_symbols names owner number (m ∷ more) = maker_symbol names owner number 
 abbrev pub made_maker : ℕ → ℕ → ℕ → MakerSymbol
 made_maker owner number at = record { number = Some number; owner = owner; params = []; throws = []; is_private = false; is_made = true; at = at }
 
+abbrev pub maker_arities : List MakerRow → List ℕ
+maker_arities rows = map (λ m. length m.params) rows
+
 -- constructors that are written
 abbrev pub written_makers : List Name → ℕ → Option ℕ → List MakerRow → Makers
-written_makers names owner number rows = record { symbols = maker_symbols names owner number rows; arities = map (λ m. length m.params) rows }
+written_makers names owner number rows = record { symbols = maker_symbols names owner number rows; arities = maker_arities rows }
 
 abbrev pub made_makers : ℕ → ℕ → ℕ → Makers
 made_makers owner number at = record { symbols = made_maker owner number at ∷ []; arities = 0 ∷ [] }
 
--- a class of the file that declares no constructor
-abbrev pub needs_maker : ℕ → List MakerRow → Bool
-needs_maker c [] = if is_built_in c then false else true
-needs_maker c (m ∷ more) = false
-
 -- ---- classes
-
--- the number that something in class c gets; none in a built-in class
-abbrev pub in_file : ℕ → ℕ → Option ℕ
-in_file c number = if is_built_in c then None else Some number
 
 abbrev pub makers_of : List Name → ℕ → Numbers → ClassRow → Makers
 makers_of names c numbers row =
@@ -103,26 +107,11 @@ abbrev pub class_symbol : List Name → List Selector → ℕ → Numbers → Cl
 class_symbol names selectors c numbers row =
     record { parent = row.parent; line = row.line; fields = fields_of names (own_fields c row.fields); methods = methods_of names selectors c (in_file c numbers.method) row.methods; makers = makers_of names c numbers row; at = row.at }
 
--- the numbers that come next behind a class
-abbrev pub numbers_after : ℕ → Numbers → ClassRow → Numbers
-numbers_after c numbers row =
-    if is_built_in c then numbers
-    else record { method = numbers.method + length row.methods; maker = numbers.maker + length row.makers; made = if needs_maker c row.makers then numbers.made + 1 else numbers.made }
-
 -- the classes from number c on
 abbrev pub class_symbols : List Name → List Selector → ℕ → Numbers → List ClassRow → List ClassSymbol
 class_symbols names selectors c numbers [] = []
 class_symbols names selectors c numbers (row ∷ more) =
     class_symbol names selectors c numbers row ∷ class_symbols names selectors (c + 1) (numbers_after c numbers row) more
-
--- how many constructors are written in the classes of the file, from class number c on
-abbrev pub written_count : ℕ → List ClassRow → ℕ
-written_count c [] = 0
-written_count c (row ∷ more) = (if is_built_in c then 0 else length row.makers) + written_count (c + 1) more
-
--- methods and constructors are numbered from 0; the constructors that are made come after all that are written
-abbrev pub first_numbers : List ClassRow → Numbers
-first_numbers rows = record { method = 0; maker = 0; made = written_count 0 rows }
 
 abbrev pub names_of : List ClassRow → List Name
 names_of rows = map (λ row. row.name) rows

@@ -1,5 +1,5 @@
 -- The types that are spelled in a file.
-use Rattle.std.specs.Prelude.{ℕ, zero, suc, List, [], ◌∷◌, codes, map, Option, Some, option_map, if◌then◌else◌, is_none}
+use Rattle.std.specs.Prelude.{ℕ, Bool, zero, suc, List, [], ◌∷◌, codes, map, Option, Some, option_map, if◌then◌else◌, is_none}
 use Rattle.std.specs.Option.{option_map_or, unwrap_or}
 use Rattle.java_syntax.specs.declared.name.BaseType.{BaseType}
 use Rattle.java_syntax.specs.declared.name.BaseType.TheVariants.{Int, Boolean, Class}
@@ -9,16 +9,19 @@ use Rattle.core_tree.specs.declared.ty.Ty.TheVariants as ty
 use Rattle.class_table.specs.Names.{Name, same_name, number_of}
 
 -- the type of arrays with so many pairs of brackets
-unfoldable pub arrays : ℕ → Ty → Ty
+abbrev pub arrays : ℕ → Ty → Ty
 arrays zero t = t
 arrays (suc n) t = ty.Array (arrays n t)
 
 abbrev pub string_name : Name
 string_name = codes "String"
 
+abbrev pub is_string : Name → Bool
+is_string name = same_name string_name name
+
 -- the type that a name stands for, where the classes have these names (JLS 4.3)
 abbrev pub named_type : List Name → Name → Option Ty
-named_type names name = if same_name string_name name then Some ty.Text else option_map ty.Class (number_of names name)
+named_type names name = if is_string name then Some ty.Text else option_map ty.Class (number_of names name)
 
 -- the type of a base without brackets
 abbrev pub base_type : List Name → BaseType → Option Ty
@@ -29,6 +32,11 @@ base_type names (Class c) = named_type names c.name
 -- the type that is spelled; none where its name is unknown
 abbrev pub type_of : List Name → TypeTree → Option Ty
 type_of names tree = option_map (arrays tree.dimensions) (base_type names tree.base)
+
+-- the place of a base: that of its name, and 0 where it has none
+abbrev pub place_of : BaseType → ℕ
+place_of (Class c) = c.at
+place_of _ = 0
 
 -- the places at which a base breaks rule 10: that of a name that is no type
 abbrev pub unknown_base : List Name → BaseType → List ℕ

@@ -8,13 +8,26 @@
 //! `classes`, `lookups`, `chosen` and `scope`.
 #![tactic(auto)]
 
+mod built_in;
+mod chosen;
 mod classes;
+mod fields;
+mod lookups;
+mod makers;
+mod methods;
+mod mods;
 mod numbering;
+mod numbers;
 mod scope;
+mod selectors;
 mod symbol;
+mod types;
 
+pub use classes::symbols;
+pub use lookups::is_accessible;
 pub use numbering::Numbering;
-pub use scope::{Locals, Scope};
+pub use scope::{Locals, Mark, Meaning, Scope};
 pub use symbol::{
     ClassSymbol, FieldSymbol, Fields, MakerSymbol, Makers, MethodSymbol, Methods, Selector, Symbols,
 };
+pub use types::{declared_type, resolve_type, type_of};

@@ -1,10 +1,16 @@
-//! The locals in scope at a place of a body.
+//! The locals in scope at a place of a body, and what a name means there.
 
+ghost use Rattle.std.specs.Prelude.{◌≡◌, [], ◌∷◌, ◌++◌, IfOk, OnOk, None, length, take};
+ghost use Rattle.std.specs.Map.{lookup};
+ghost use Rattle.class_table.specs.Names.{same_name};
+
+use crate::symbol::{FieldSymbol, Symbols};
 use class_table::Shared;
 use core_tree::Ty;
 use indexmap::IndexMap;
 use java_tokens::Name;
 use sqlite_items::Items;
+use std::alloc::{AllocError, Global};
 use std::marker::Model;
 
 /// The locals in scope, the outermost first, each with its number. Contracts see a list of pairs of a name and a number.
@@ -19,6 +25,69 @@ impl Model for Locals {
     ghost Value = { List (List ℕ × ℕ) };
 
     ghost view = { λ locals. locals.numbers.entries };
+}
+
+impl Locals {
+    /// No locals.
+    pub fn new(alloc: Global) -> Locals
+        ensures { result ≡ [] }
+    {
+        Locals {
+            numbers: IndexMap::new(alloc),
+        }
+    }
+
+    /// How many locals are in scope.
+    pub fn len(&self) -> usize
+        ensures { result ≡ length self.now }
+    {
+        self.numbers.len()
+    }
+
+    /// The number of the local of that name. It takes no memory.
+    pub fn find(&self, name: &Name) -> Option<u32>
+        ensures { result ≡ lookup (same_name name.now) self.now }
+    {
+        self.numbers.get(name).copied()
+    }
+
+    /// Adds a local, of whose name there is none yet. After an `Err` the locals are as before.
+    pub fn push(&mut self, name: Name, number: u32) -> Result<(), AllocError>
+        requires fresh { lookup (same_name name) self.old ≡ None }
+        ensures { OnOk result (self.new ≡ self.old ++ (name, number) ∷ []) }
+    {
+        self.numbers.insert(name, number)?;
+        Ok(())
+    }
+
+    /// Keeps the first `count` locals.
+    pub fn truncate(&mut self, count: usize)
+        ensures { self.new ≡ take count self.old }
+    {
+        self.numbers.truncate(count);
+    }
+}
+
+/// Where a block begins.
+#[derive(Clone, Copy, Drop)]
+pub struct Mark {
+    /// How many locals are in scope there.
+    pub locals: usize,
+    /// Whether it stands in a loop.
+    pub in_loop: bool,
+}
+
+/// What a name means at a place (JLS 6.5).
+#[derive(Drop)]
+pub enum Meaning<'a> {
+    /// The local with this number.
+    Local(u32),
+    /// A field or constant of the class or its superclasses.
+    Field(&'a FieldSymbol),
+    /// The class with this number, which a name may mean before a dot.
+    Class(u32),
+    /// Nothing.
+    Unknown,
 }
 
 /// What is known at a place of a body.

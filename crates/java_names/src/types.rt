@@ -1,0 +1,144 @@
+//! The types that are spelled in a file.
+
+ghost use Rattle.std.specs.Prelude.{◌≡◌, [], ◌∷◌, IfOk, IfErr, OnOk, Some};
+ghost use Rattle.class_table.specs.Faults.{Blames, OfRule};
+ghost use Rattle.java_names.specs.Types as spec;
+ghost use Rattle.java_syntax.specs.declared.fault.Fault.{Fault};
+
+use crate::numbering::Numbering;
+use class_table::Shared;
+use core_tree::Ty;
+use java_syntax::{BaseType, CheckError, Fault, TypeTree};
+use java_tokens::Name;
+use sqlite_items::{Boxed, Items};
+use std::alloc::{AllocError, Global};
+
+/// Whether a name is `String`.
+fn is_string(name: &Name) -> bool
+    ensures { result ≡ spec.is_string name.now }
+{
+    matches!(name.characters(), ['S', 't', 'r', 'i', 'n', 'g'])
+}
+
+/// The type that a name stands for, where the classes have these names; `None` where that is unknown.
+fn named_type(names: &Numbering<Name>, name: &Name) -> Option<Ty>
+    ensures { result ≡ spec.named_type names.now name.now }
+{
+    if is_string(name) {
+        return Some(Ty::Text);
+    }
+    match names.number(name) {
+        Some(class) => Some(Ty::Class(class)),
+        None => None,
+    }
+}
+
+/// The type of a base; `None` where its name is unknown.
+fn base_type(names: &Numbering<Name>, base: &BaseType) -> Option<Ty>
+    ensures { result ≡ spec.base_type names.now base.now }
+{
+    match base {
+        BaseType::Int => Some(Ty::Int),
+        BaseType::Boolean => Some(Ty::Bool),
+        BaseType::Class(class) => named_type(names, &class.name),
+    }
+}
+
+/// The type of arrays with so many pairs of brackets behind this type.
+fn arrays(alloc: Global, ty: Ty, dimensions: u32) -> Result<Ty, AllocError>
+    ensures { IfOk result (λ t. t ≡ spec.arrays dimensions ty) }
+{
+    let mut ty = ty;
+    for _ in 0..dimensions {
+        ty = Ty::Array(Boxed::new(alloc, ty)?);
+    }
+    Ok(ty)
+}
+
+/// The type that is spelled, where the classes have these names; `None` where its name is unknown (JLS 4.2, 4.3).
+/// `AllocError` where there is no memory left.
+pub fn type_of(
+    alloc: Global,
+    names: &Numbering<Name>,
+    tree: &TypeTree,
+) -> Result<Option<Ty>, AllocError>
+    ensures { IfOk result (λ t. t ≡ spec.type_of names.now tree.now) }
+{
+    match base_type(names, &tree.base) {
+        Some(base) => Ok(Some(arrays(alloc, base, tree.dimensions)?)),
+        None => Ok(None),
+    }
+}
+
+/// The error of a type whose base has an unknown name.
+fn unknown(base: &BaseType) -> CheckError
+    ensures { result ≡ CheckError.Fault (record { rule = 10; at = spec.place_of base.now }) }
+{
+    let at = match base {
+        BaseType::Class(class) => class.at,
+        _ => 0,
+    };
+    CheckError::Fault(Fault { rule: 10, at })
+}
+
+/// The type that is spelled, where the classes have these names (JLS 4.2, 4.3).
+///
+/// # Errors
+/// `Fault` of rule 10 at the name, where that is unknown. `OutOfMemory` where there is no memory left.
+pub fn resolve_type(
+    alloc: Global,
+    names: &Numbering<Name>,
+    tree: &TypeTree,
+) -> Result<Ty, CheckError>
+    ensures found { IfOk result (λ t. spec.type_of names.now tree.now ≡ Some t) }
+    ensures known { OnOk result (spec.unknown_type names.now tree.now ≡ []) }
+    ensures fault { IfErr result (Blames (OfRule 10 (λ at. spec.unknown_type names.now tree.now ≡ at ∷ []))) }
+{
+    match type_of(alloc, names, tree)? {
+        Some(ty) => Ok(ty),
+        None => Err(unknown(&tree.base)),
+    }
+}
+
+/// The type of a declaration; `Void` where its name is unknown.
+pub fn declared_type(
+    alloc: Global,
+    names: &Numbering<Name>,
+    tree: &TypeTree,
+) -> Result<Shared<Ty>, AllocError>
+    ensures { IfOk result (λ t. t ≡ spec.declared_type names.now tree.now) }
+{
+    match type_of(alloc, names, tree)? {
+        Some(ty) => Shared::new(alloc, ty),
+        None => Shared::new(alloc, Ty::Void),
+    }
+}
+
+/// The types of declarations in order.
+pub fn declared_types(
+    alloc: Global,
+    names: &Numbering<Name>,
+    trees: &[TypeTree],
+) -> Result<Items<Shared<Ty>>, AllocError>
+    ensures { IfOk result (λ types. types ≡ spec.declared_types names.now trees.now) }
+{
+    let mut types = Items::new(alloc);
+    for tree in trees {
+        types.push(declared_type(alloc, names, tree)?)?;
+    }
+    Ok(types)
+}
+
+/// The type of a result; `Void` where there is none, and where its name is unknown.
+pub fn answer_type(
+    alloc: Global,
+    names: &Numbering<Name>,
+    answer: &Option<TypeTree>,
+) -> Result<Shared<Ty>, AllocError>
+    ensures { IfOk result (λ t. t ≡ spec.answer_type names.now answer.now) }
+{
+    match answer {
+        Some(tree) => declared_type(alloc, names, tree),
+        None => Shared::new(alloc, Ty::Void),
+    }
+}

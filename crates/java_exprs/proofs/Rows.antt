@@ -16,7 +16,6 @@ use Rattle.java_names.specs.declared.symbol.ClassSymbol.{ClassSymbol}
 use Rattle.java_names.specs.declared.symbol.FieldSymbol.{FieldSymbol}
 use Rattle.java_names.specs.declared.symbol.Symbols.{Symbols}
 use Rattle.java_names.specs.declared.scope.Scope.{Scope}
-use Rattle.java_names.specs.Types.{arrays}
 use Rattle.java_names.specs.Scope.{first_scope, declared}
 use Rattle.java_exprs.specs.declared.environment.Environment.{Environment}
 use Rattle.java_exprs.specs.declared.literal.Literal.TheVariants as literal
@@ -203,19 +202,19 @@ field_of_object_in_static = refl
 -- ---- 15
 
 cast_to_string : rule_15 env (Expr-F.Cast 4 (class_type (codes "String") 5) (int 7)) ≡ 4 ∷ []
-unfolding out-Ty out shown-the_row-Ty-0 shown hidden arrays
+unfolding out-Ty out shown-the_row-Ty-0 shown hidden
 cast_to_string = refl
 
 cast_of_int : rule_15 env (Expr-F.Cast 4 (class_type (codes "A") 5) (int 7)) ≡ 4 ∷ []
-unfolding out-Ty out shown-the_row-Ty-0 shown hidden arrays
+unfolding out-Ty out shown-the_row-Ty-0 shown hidden
 cast_of_int = rw (assignable-Int env.symbols, assignable-Class env.symbols 0) refl
 
 cast_upwards : rule_15 env (Expr-F.Cast 4 (class_type (codes "A") 5) (instance 7)) ≡ []
-unfolding out-Ty out shown-the_row-Ty-0 shown hidden arrays
+unfolding out-Ty out shown-the_row-Ty-0 shown hidden
 cast_upwards = rw (assignable-Class env.symbols 1) refl
 
 cast_downwards : rule_15 env (Expr-F.Cast 4 (class_type (codes "B") 5) (of_type (ty.Class 0) 7)) ≡ []
-unfolding out-Ty out shown-the_row-Ty-0 shown hidden arrays
+unfolding out-Ty out shown-the_row-Ty-0 shown hidden
 cast_downwards = rw (assignable-Class env.symbols 0, assignable-Class env.symbols 1) refl
 
 -- ---- 16

@@ -9,7 +9,7 @@ use Rattle.java_syntax.specs.declared.expression.Expr.TheFolds.{fold-Expr}
 use Rattle.class_table.specs.Names.{Name}
 use Rattle.java_names.specs.declared.scope.Scope.{Scope}
 use Rattle.java_names.specs.declared.symbol.FieldSymbol.{FieldSymbol}
-use Rattle.java_names.specs.Scope.{Meaning, Local, Field, Class, Unknown, meaning_of}
+use Rattle.java_names.specs.Scope.{Denoted, Local, Field, Class, Unknown, meaning_of}
 use Rattle.java_exprs.specs.declared.environment.Environment.{Environment}
 use Rattle.java_exprs.specs.declared.literal.Literal.{Literal}
 use Rattle.java_exprs.specs.declared.literal.Literal.TheVariants as literal
@@ -33,7 +33,7 @@ found_folded env (Some f) = field_folded env f
 found_folded env None = folded.Other
 
 -- a name is a constant, or a class before a dot
-abbrev pub name_folded : Environment → Meaning → Folded
+abbrev pub name_folded : Environment → Denoted → Folded
 name_folded env (Field f) = field_folded env f
 name_folded env (Class c) = folded.Class c
 name_folded env (Local n) = folded.Other

@@ -10,22 +10,12 @@ use crate::forms::{class_of, elements_of, is_boolean, is_int, is_null, is_object
 use core_tree::Ty;
 use java_names::Symbols;
 
-// Whether class number `class` is class number `other` or below it.
-fn is_below(symbols: &Symbols, class: u32, other: u32) -> bool
-    ensures { result ≡ names.is_below symbols.now class other }
-{
-    match symbols.classes.as_slice().get(class as usize) {
-        Some(symbol) => symbol.line.as_slice().contains(&other),
-        None => false,
-    }
-}
-
 // Whether the type is the class type of this class or of one above it.
 fn is_above(symbols: &Symbols, class: u32, to: &Ty) -> bool
     ensures { result ≡ option_map_or (names.is_below symbols.now class) (of.class_of to.now) false }
 {
     match class_of(to) {
-        Some(other) => is_below(symbols, class, other),
+        Some(other) => symbols.is_below(class, other),
         None => false,
     }
 }

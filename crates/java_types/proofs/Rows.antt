@@ -23,8 +23,7 @@ use Rattle.java_syntax.specs.declared.statement.Stmt.TheOpen.{Stmt-F}
 use Rattle.java_names.specs.declared.symbol.ClassSymbol.{ClassSymbol}
 use Rattle.java_names.specs.declared.symbol.MakerSymbol.{MakerSymbol}
 use Rattle.java_names.specs.declared.scope.Scope.{Scope}
-use Rattle.java_names.specs.Scope.{first_scope, declared, left}
-use Rattle.java_names.specs.Types.{arrays}
+use Rattle.java_names.specs.Scope.{first_scope, declared, left, back_at}
 use Rattle.java_exprs.specs.declared.environment.Environment.{Environment}
 use Rattle.java_exprs.specs.declared.typed.Denotation.{Denotation}
 use Rattle.java_exprs.specs.declared.typed.Denotation.TheVariants as denotes
@@ -113,7 +112,7 @@ unknown_type = refl
 
 -- behind its block a local may be declared again
 behind_block : stmt_10 env (Stmt-F.Local (local int_type (ident (codes "x") 7))) (left scope with_x) ≡ []
-unfolding declared left
+unfolding declared back_at
 behind_block = refl
 
 two_params : params_10 env (record { ty = int_type; name = ident (codes "x") 3 } ∷ record { ty = int_type; name = ident (codes "x") 5 } ∷ []) scope ≡ 5 ∷ []
@@ -201,11 +200,11 @@ abbrev constant : TypeTree → FieldTree
 constant t = record { mods = record { words = word.Static ∷ word.Final ∷ [] }; ty = t; name = ident (codes "K") 7; value = None }
 
 constant_of_class : constant_type_20 env (constant (class_type (codes "A") 5)) ≡ 7 ∷ []
-unfolding out-Ty out shown-the_row-Ty-0 shown hidden arrays
+unfolding out-Ty out shown-the_row-Ty-0 shown hidden
 constant_of_class = refl
 
 constant_of_int : constant_type_20 env (constant int_type) ≡ []
-unfolding out-Ty out shown-the_row-Ty-0 shown hidden arrays
+unfolding out-Ty out shown-the_row-Ty-0 shown hidden
 constant_of_int = refl
 
 failing_initialiser : is_initialiser folded.Fails ≡ false

@@ -1,1 +1,3 @@
 pub mod NumberingLemmas
+pub mod ScopeLemmas
+pub mod ChosenLemmas

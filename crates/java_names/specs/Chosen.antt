@@ -1,5 +1,5 @@
 -- Which method a selector picks in a class (JLS 15.12.4.4).
-use Rattle.std.specs.Prelude.{ℕ, ◌==◌, List, [], ◌∷◌, map, length, Option, None, option_and_then, if◌then◌else◌}
+use Rattle.std.specs.Prelude.{ℕ, ◌+◌, ◌==◌, List, [], ◌∷◌, map, length, Option, Some, None, option_and_then, if◌then◌else◌}
 use Rattle.std.specs.List.{range_with_len}
 use Rattle.std.specs.Option.{option_map_or, option_or}
 use Rattle.java_names.specs.declared.symbol.MethodSymbol.{MethodSymbol}
@@ -27,3 +27,12 @@ chosen_method s c selector = nearest (λ d. first_picked selector (methods_at s 
 -- what the selectors pick in class c, by their numbers
 abbrev pub chosen_of : Symbols → ℕ → List (Option ℕ)
 chosen_of s c = map (chosen_method s c) (range_with_len 0 (length s.selectors))
+
+-- what selectors pick, from number n on, where those that pick nothing yet take what `more` says
+abbrev pub completed : ℕ → List (Option ℕ) → (ℕ → Option ℕ) → List (Option ℕ)
+completed n [] more = []
+completed n (pick ∷ picks) more = option_or pick (more n) ∷ completed (n + 1) picks more
+
+-- selector number s picks method m, and no other picks any
+abbrev pub only : ℕ → ℕ → ℕ → Option ℕ
+only s m k = if s == k then Some m else None

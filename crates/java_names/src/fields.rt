@@ -1,6 +1,6 @@
 //! The fields that a class declares itself.
 
-ghost use Rattle.std.specs.Prelude.{◌≡◌, ◌++◌, IfOk, OnOk, map};
+ghost use Rattle.std.specs.Prelude.{◌≡◌, [], ◌∷◌, IfOk, OnOk};
 ghost use Rattle.java_names.specs.Symbols as spec;
 
 use crate::mods::is_private;

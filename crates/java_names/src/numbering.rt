@@ -1,6 +1,6 @@
 //! Keys by their numbers, found in constant time.
 
-ghost use Rattle.std.specs.Prelude.{◌≡◌, [], ◌∷◌, ◌++◌, OnOk, OnErr, position, is_some};
+ghost use Rattle.std.specs.Prelude.{◌≡◌, [], ◌∷◌, ◌++◌, OnOk, OnErr, length, position, is_some};
 ghost use Rattle.std.specs.List.{list_any};
 
 use indexmap::IndexMap;
@@ -41,6 +41,13 @@ impl<K: Eq + Hash + Drop> Numbering<K> {
             keys: Items::new(alloc),
             first: IndexMap::new(alloc),
         }
+    }
+
+    /// How many keys there are.
+    pub fn len(&self) -> usize
+        ensures { result ≡ length self.now }
+    {
+        self.keys.len()
     }
 
     /// Adds a key, given with a copy of it. `AllocError` where there is no memory left, or no number; then the keys are as

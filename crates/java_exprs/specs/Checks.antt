@@ -1,5 +1,5 @@
 -- What is known of an expression, from its nodes upward, and what a check of it answers.
-use Rattle.std.specs.Prelude.{ℕ, ◌≡◌, List, [], ◌∷◌, ◌++◌, Some, Result, Ok, Err, ◌⊎◌}
+use Rattle.std.specs.Prelude.{ℕ, ◌≡◌, Bool, map, List, [], ◌∷◌, ◌++◌, Some, Result, Ok, Err, ◌⊎◌}
 use Rattle.java_syntax.specs.declared.fault.Fault.{Fault}
 use Rattle.java_syntax.specs.declared.fault.CheckError.{CheckError}
 use Rattle.java_syntax.specs.declared.fault.CheckError.TheVariants as error
@@ -9,6 +9,8 @@ use Rattle.java_syntax.specs.declared.expression.Expr.TheFolds.{fold-Expr}
 use Rattle.java_names.specs.declared.scope.Scope.{Scope}
 use Rattle.java_exprs.specs.declared.environment.Environment.{Environment}
 use Rattle.java_exprs.specs.declared.typed.Typed.{Typed}
+use Rattle.java_exprs.specs.declared.typed.Denotation.TheVariants as denotes
+use Rattle.java_exprs.specs.declared.value.Value.{Value}
 use Rattle.java_exprs.specs.Attr.{Attr, Node}
 use Rattle.java_exprs.specs.Denotes.{denotes_of, form_of, needs_minus}
 use Rattle.java_exprs.specs.Resolved.{core_of}
@@ -74,3 +76,10 @@ Checks a (Err e) = Refuses a.faults e
 abbrev pub Allows : List Fault → Result (Unit {0}) CheckError → Type 0
 Allows faults (Ok u) = faults ≡ []
 Allows faults (Err e) = Refuses faults e
+
+-- what is known of an expression that breaks no rule and has a value
+abbrev pub of_value : Value → Attr
+of_value v = record { at = v.at; denotes = Some (denotes.Value v.ty); form = v.form; needs_minus = Bool.false; core = v.core; faults = [] }
+
+abbrev pub of_values : List Value → List Attr
+of_values vs = map of_value vs

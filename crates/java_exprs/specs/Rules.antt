@@ -294,8 +294,11 @@ rule_19 _ = []
 
 -- ---- 21: `+` with a String and an instance or array
 
+abbrev pub sum_21 : Attr → Attr → List ℕ
+sum_21 l r = of_types (λ a b. only_if ((is_string a && is_object b) || (is_object a && is_string b)) l.at) l r
+
 abbrev pub rule_21 : Node → List ℕ
-rule_21 (Expr-F.Binary binary.Add l r) = of_types (λ a b. only_if ((is_string a && is_object b) || (is_object a && is_string b)) l.at) l r
+rule_21 (Expr-F.Binary binary.Add l r) = sum_21 l r
 rule_21 _ = []
 
 -- ---- all that is broken

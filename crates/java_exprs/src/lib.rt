@@ -4,11 +4,15 @@
 mod assignability;
 mod constants;
 mod environment;
+mod fault;
 mod folded;
 mod forms;
 mod literal;
+mod literals;
+mod operators;
 mod through;
 mod typed;
+mod value;
 
 pub use constants::Constants;
 pub use environment::Environment;
@@ -16,3 +20,4 @@ pub use folded::Folded;
 pub use literal::Literal;
 pub use through::Through;
 pub use typed::{Denotation, Form, Printing, Typed};
+pub use value::Value;

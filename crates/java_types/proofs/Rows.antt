@@ -33,8 +33,9 @@ use Rattle.java_exprs.specs.declared.folded.Folded.TheVariants as folded
 use Rattle.java_exprs.specs.Attr.{Attr}
 use Rattle.java_exprs.proofs.TypeLemmas.{assignable-Text}
 use Rattle.java_exprs.proofs.AttrLemmas.{attr_number, attr_bool}
+use Rattle.java_exprs.specs.Rules.{sum_21}
 use Rattle.java_types.specs.Effects.{Part, StmtNode, sequence, inner}
-use Rattle.java_types.specs.Statements.{stmt_10, stmt_11, stmt_14, stmt_17, stmt_18, target_18, constant_20, sum_21, after_of, with_local}
+use Rattle.java_types.specs.Statements.{stmt_10, stmt_11, stmt_14, stmt_17, stmt_18, target_18, constant_20, after_of, with_local}
 use Rattle.java_types.specs.Declarations.{field_words_20, maker_words_20, method_words_20, constant_type_20, params_10}
 use Rattle.java_types.specs.Constants.{is_initialiser}
 use Rattle.java_types.specs.Bodies.{parent_faults}

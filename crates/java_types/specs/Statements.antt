@@ -39,7 +39,7 @@ use Rattle.java_exprs.specs.declared.typed.Form.{Form}
 use Rattle.java_exprs.specs.declared.typed.Form.TheVariants as form
 use Rattle.java_exprs.specs.Attr.{Attr, value_type, unless, only_if, of_rule, value_faults, values_faults, statement_faults}
 use Rattle.java_exprs.specs.Lookups.{class_named, local_named, unknown_type}
-use Rattle.java_exprs.specs.Rules.{wants, wants_type, both_11, bitwise_11, of_types}
+use Rattle.java_exprs.specs.Rules.{wants, wants_type, both_11, bitwise_11, of_types, sum_21}
 use Rattle.java_exprs.specs.Checks.{attr}
 use Rattle.java_types.specs.Effects.{Effect, CatchEffect, Part, CatchPart, StmtNode, CatchNode, sequence, clauses, inner, looped, branch}
 
@@ -238,9 +238,6 @@ stmt_20 env (Stmt-F.Step op side a) s = constant_20 (attr env s a).form
 stmt_20 env _ s = []
 
 -- ---- 21: `+=` with a String and an instance or array
-
-abbrev pub sum_21 : Attr → Attr → List ℕ
-sum_21 a e = of_types (λ t u. only_if ((is_string t && is_object u) || (is_object t && is_string u)) a.at) a e
 
 abbrev pub stmt_21 : Environment → StmtNode → Scope → List ℕ
 stmt_21 env (Stmt-F.Assign a assign.Add e) s = sum_21 (attr env s a) (attr env s e)

@@ -99,27 +99,37 @@ un_op unary.Minus = un.Neg
 un_op unary.Not = un.Not
 un_op unary.Complement = un.Flip
 
--- the operators that take two values of the types that they stand between; `+` is one where no String stands there
+-- the operator on the values of its operands; `||` and `&&` are none
+abbrev pub strict_op : BinaryOp → Option BinOp
+strict_op binary.Or = None
+strict_op binary.And = None
+strict_op binary.BitOr = Some bin.BitOr
+strict_op binary.BitXor = Some bin.BitXor
+strict_op binary.BitAnd = Some bin.BitAnd
+strict_op binary.Equal = Some bin.Eq
+strict_op binary.NotEqual = Some bin.Ne
+strict_op binary.Less = Some bin.Lt
+strict_op binary.Greater = Some bin.Gt
+strict_op binary.LessEqual = Some bin.Le
+strict_op binary.GreaterEqual = Some bin.Ge
+strict_op binary.ShiftLeft = Some bin.Shl
+strict_op binary.ShiftRight = Some bin.Shr
+strict_op binary.UnsignedShiftRight = Some bin.Ushr
+strict_op binary.Add = Some bin.Add
+strict_op binary.Subtract = Some bin.Sub
+strict_op binary.Multiply = Some bin.Mul
+strict_op binary.Divide = Some bin.Div
+strict_op binary.Remainder = Some bin.Rem
+
+abbrev pub value_core : BinaryOp → Core → Core → Core
+value_core op l r = option_map_or (λ strict. view.Binary strict l r) (strict_op op) core.Null
+
+-- `||` and `&&`, `+` where it joins texts, and the operators on values
 abbrev pub binary_core : BinaryOp → Bool → Core → Core → Core
 binary_core binary.Or text l r = view.Or l r
 binary_core binary.And text l r = view.And l r
-binary_core binary.BitOr text l r = view.Binary bin.BitOr l r
-binary_core binary.BitXor text l r = view.Binary bin.BitXor l r
-binary_core binary.BitAnd text l r = view.Binary bin.BitAnd l r
-binary_core binary.Equal text l r = view.Binary bin.Eq l r
-binary_core binary.NotEqual text l r = view.Binary bin.Ne l r
-binary_core binary.Less text l r = view.Binary bin.Lt l r
-binary_core binary.Greater text l r = view.Binary bin.Gt l r
-binary_core binary.LessEqual text l r = view.Binary bin.Le l r
-binary_core binary.GreaterEqual text l r = view.Binary bin.Ge l r
-binary_core binary.ShiftLeft text l r = view.Binary bin.Shl l r
-binary_core binary.ShiftRight text l r = view.Binary bin.Shr l r
-binary_core binary.UnsignedShiftRight text l r = view.Binary bin.Ushr l r
 binary_core binary.Add text l r = if text then view.Concat l r else view.Binary bin.Add l r
-binary_core binary.Subtract text l r = view.Binary bin.Sub l r
-binary_core binary.Multiply text l r = view.Binary bin.Mul l r
-binary_core binary.Divide text l r = view.Binary bin.Div l r
-binary_core binary.Remainder text l r = view.Binary bin.Rem l r
+binary_core op text l r = value_core op l r
 
 -- one of the operands is a String
 abbrev pub joins : Attr → Attr → Bool

@@ -101,3 +101,125 @@ fn want_summands(l: &Value, r: &Value) -> Result<(), CheckError>
     }
     want_ints(l, r)
 }
+
+// Sees that the operands suit the operator.
+fn check_operands(
+    env: &Environment,
+    scope: &Scope,
+    op: BinaryOp,
+    l: &Value,
+    r: &Value,
+) -> Result<(), CheckError>
+    ensures { Allows (rule.broken_here env.now scope.now (Expr-F.Binary op (of_value l.now) (of_value r.now))) result }
+{
+    match op {
+        BinaryOp::Or | BinaryOp::And => want_booleans(l, r),
+        BinaryOp::BitOr | BinaryOp::BitXor | BinaryOp::BitAnd => want_alike(l, r),
+        BinaryOp::Equal | BinaryOp::NotEqual => want_comparable(env, l, r),
+        BinaryOp::Add => want_summands(l, r),
+        _ => want_ints(l, r),
+    }
+}
+
+// The type of the operator's result.
+fn binary_type(op: BinaryOp, l: &Ty, r: &Ty) -> Ty
+    ensures { Some result ≡ denotes.binary_type op (Some l.now) (Some r.now) }
+{
+    match op {
+        BinaryOp::BitOr | BinaryOp::BitXor | BinaryOp::BitAnd => {
+            if is_boolean(l) {
+                Ty::Bool
+            } else {
+                Ty::Int
+            }
+        }
+        BinaryOp::Add => {
+            if is_string(l) || is_string(r) {
+                Ty::Text
+            } else {
+                Ty::Int
+            }
+        }
+        BinaryOp::ShiftLeft
+        | BinaryOp::ShiftRight
+        | BinaryOp::UnsignedShiftRight
+        | BinaryOp::Subtract
+        | BinaryOp::Multiply
+        | BinaryOp::Divide
+        | BinaryOp::Remainder => Ty::Int,
+        _ => Ty::Bool,
+    }
+}
+
+// The operator on the values of its operands; `None` of those that aren't one for their types.
+fn strict_op(op: BinaryOp) -> Option<BinOp>
+    ensures { result ≡ resolved.strict_op op }
+{
+    match op {
+        BinaryOp::Or | BinaryOp::And => None,
+        BinaryOp::BitOr => Some(BinOp::BitOr),
+        BinaryOp::BitXor => Some(BinOp::BitXor),
+        BinaryOp::BitAnd => Some(BinOp::BitAnd),
+        BinaryOp::Equal => Some(BinOp::Eq),
+        BinaryOp::NotEqual => Some(BinOp::Ne),
+        BinaryOp::Less => Some(BinOp::Lt),
+        BinaryOp::Greater => Some(BinOp::Gt),
+        BinaryOp::LessEqual => Some(BinOp::Le),
+        BinaryOp::GreaterEqual => Some(BinOp::Ge),
+        BinaryOp::ShiftLeft => Some(BinOp::Shl),
+        BinaryOp::ShiftRight => Some(BinOp::Shr),
+        BinaryOp::UnsignedShiftRight => Some(BinOp::Ushr),
+        BinaryOp::Add => Some(BinOp::Add),
+        BinaryOp::Subtract => Some(BinOp::Sub),
+        BinaryOp::Multiply => Some(BinOp::Mul),
+        BinaryOp::Divide => Some(BinOp::Div),
+        BinaryOp::Remainder => Some(BinOp::Rem),
+    }
+}
+
+// The resolved operator, which joins texts where `joins`.
+fn binary_core(
+    alloc: Global,
+    op: BinaryOp,
+    joins: bool,
+    l: Expr,
+    r: Expr,
+) -> Result<Expr, AllocError>
+    ensures { IfOk result (λ core. core ≡ resolved.binary_core op joins l r) }
+{
+    let l = Boxed::new(alloc, l)?;
+    let r = Boxed::new(alloc, r)?;
+    if joins && matches!(op, BinaryOp::Add) {
+        return Ok(Expr::Concat(l, r));
+    }
+    match strict_op(op) {
+        Some(op) => Ok(Expr::Binary(op, l, r)),
+        None if matches!(op, BinaryOp::Or) => Ok(Expr::Or(l, r)),
+        None => Ok(Expr::And(l, r)),
+    }
+}
+
+/// An operator between two operands (JLS 15.17 to 15.24).
+pub fn binary(
+    alloc: Global,
+    env: &Environment,
+    scope: &Scope,
+    op: BinaryOp,
+    l: Value,
+    r: Value,
+) -> Result<Typed, CheckError>
+    ensures { Checks (attr_at env.now scope.now (Expr-F.Binary op (of_value l) (of_value r))) result }
+{
+    check_operands(env, scope, op, &l, &r)?;
+    let at = l.at;
+    let ty = binary_type(op, &l.ty, &r.ty);
+    let joins = is_string(&l.ty) || is_string(&r.ty);
+    let core = binary_core(alloc, op, joins, l.core, r.core)?;
+    Ok(Typed {
+        at,
+        denotes: Denotation::Value(ty),
+        form: Form::Other,
+        needs_minus: false,
+        core,
+    })
+}

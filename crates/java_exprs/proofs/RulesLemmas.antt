@@ -1,8 +1,9 @@
 -- Lemmas on lists of faults.
-use Rattle.std.proofs.Common.{◌≡◌, ℕ, List, [], ◌∷◌, ◌++◌, map, length, refl, ap, arith, inl, inr}
+use Rattle.std.proofs.Common.{◌≡◌, ℕ, List, [], ◌∷◌, ◌++◌, map, length, refl, sym, ap, arith, inl, inr}
 use Rattle.java_syntax.specs.declared.fault.Fault.{Fault}
 use Rattle.java_syntax.specs.declared.fault.CheckError.{CheckError}
 use Rattle.java_syntax.specs.declared.fault.CheckError.TheVariants as error
+use Rattle.class_table.specs.Faults.{Blames, OfRule}
 use Rattle.java_exprs.specs.declared.value.Value.{Value}
 use Rattle.java_exprs.specs.Attr.{Attr, of_rule, value_faults, values_faults}
 use Rattle.java_exprs.specs.Checks.{Has, Refuses, of_value, of_values}
@@ -41,6 +42,14 @@ refuses_here k ats more error.OutOfMemory h = tt
 pub refuses_there : (k : ℕ) (ats : List ℕ) (more : List Fault) (e : CheckError) → Refuses more e → Refuses (of_rule k ats more) e
 refuses_there k ats more (error.Fault f) h = has_there k ats more f h
 refuses_there k ats more error.OutOfMemory h = tt
+
+-- an error that names the one place of a rule
+pub one_place : (k : ℕ) (ats : List ℕ) (e : CheckError) → Blames (OfRule k (λ at. ats ≡ at ∷ [])) e → Refuses (of_rule k ats []) e
+one_place k ats (error.Fault f) h = rw (h.holds) (inl (fault_is f k h.rule_is))
+  where
+    fault_is : (f : Fault) (k : ℕ) → f.rule ≡ k → record { rule = k; at = f.at } ≡ f
+    fault_is f k is = rw (sym is) refl
+one_place k ats error.OutOfMemory h = tt
 
 of_both : (k : ℕ) (xs ys : List ℕ) (more : List Fault) → of_rule k (xs ++ ys) more ≡ of_rule k xs (of_rule k ys more)
 of_both k [] ys more = refl

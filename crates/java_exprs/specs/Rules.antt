@@ -184,9 +184,9 @@ binary_11 env binary.NotEqual l r = equality_11 env l r
 binary_11 env binary.Add l r = sum_11 l r
 binary_11 env _ l r = both_11 is_int l r
 
--- the third operand, where neither it nor the second can be assigned to the other's type
-abbrev pub choice_11 : Environment → Attr → Attr → List ℕ
-choice_11 env a b = of_types (λ t u. unless (is_either_way env.symbols t u) b.at) a b
+-- a boolean before `?`; and the third operand, where neither it nor the second can be assigned to the other's type
+abbrev pub choice_11 : Environment → Attr → Attr → Attr → List ℕ
+choice_11 env c a b = wants is_boolean c ++ of_types (λ t u. unless (is_either_way env.symbols t u) b.at) a b
 
 abbrev pub rule_11 : Environment → Scope → Node → List ℕ
 rule_11 env s (Expr-F.Call m xs) = option_map_or (calling_11 env) (calling env s (Expr-F.Call m xs)) []
@@ -199,7 +199,7 @@ rule_11 env s (Expr-F.Element a i) = wants is_array a ++ wants is_int i
 rule_11 env s (Expr-F.Unary at op e) = unary_11 op e
 rule_11 env s (Expr-F.Binary op l r) = binary_11 env op l r
 rule_11 env s (Expr-F.InstanceOf e t) = option_map_or (λ to. unless (is_object to || is_string to) e.at) (type_named env t) []
-rule_11 env s (Expr-F.Conditional c a b) = wants is_boolean c ++ choice_11 env a b
+rule_11 env s (Expr-F.Conditional c a b) = choice_11 env c a b
 rule_11 env s _ = []
 
 -- ---- 12: a method or constructor of that name exists, and none with this number of arguments

@@ -2,6 +2,7 @@
 #![tactic(auto)]
 
 mod assignability;
+mod casts;
 mod constants;
 mod environment;
 mod fault;
@@ -10,8 +11,10 @@ mod forms;
 mod literal;
 mod literals;
 mod operators;
+mod simple;
 mod through;
 mod typed;
+mod unary;
 mod value;
 
 pub use constants::Constants;

@@ -15,14 +15,14 @@ use crate::fault::fault;
 use crate::forms::{is_boolean, is_int, is_null, is_object, is_string};
 use crate::typed::{Denotation, Form, Typed};
 use crate::value::Value;
-use core_tree::{BinOp, Expr, Ty, UnOp};
+use core_tree::{BinOp, Expr, Ty};
 use java_names::Scope;
-use java_syntax::{BinaryOp, CheckError, UnaryOp};
+use java_syntax::{BinaryOp, CheckError};
 use sqlite_items::Boxed;
 use std::alloc::{AllocError, Global};
 
-// Sees that the operand is an int.
-fn wants_int(e: &Value) -> Result<(), CheckError>
+/// Sees that the operand is an int.
+pub fn wants_int(e: &Value) -> Result<(), CheckError>
     ensures { Allows (of_rule 11 (rule.wants of.is_int (of_value e.now)) []) result }
 {
     if is_int(&e.ty) {
@@ -32,8 +32,8 @@ fn wants_int(e: &Value) -> Result<(), CheckError>
     }
 }
 
-// Sees that the operand is a boolean.
-fn wants_boolean(e: &Value) -> Result<(), CheckError>
+/// Sees that the operand is a boolean.
+pub fn wants_boolean(e: &Value) -> Result<(), CheckError>
     ensures { Allows (of_rule 11 (rule.wants of.is_boolean (of_value e.now)) []) result }
 {
     if is_boolean(&e.ty) {

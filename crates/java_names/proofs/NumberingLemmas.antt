@@ -1,6 +1,6 @@
 -- The numbers of keys after one more key.
 use Rattle.std.proofs.Common.{◌≡◌, ℕ, Bool, true, false, not, cond, length-append, List, [], ◌∷◌, ◌++◌, length, position, Option, None, Some, is_some, refl, sym, ap, ◌∙◌, true≢false, if◌then◌else◌, arith}
-use Rattle.std.specs.List.{list_any, position_or_len}
+use Rattle.std.specs.List.{list_any}
 use Rattle.std.specs.Option.{option_or}
 use Rattle.std.specs.Cmp.{IsEquivalence}
 use Rattle.std.proofs.lemmas.List.Folds.{position_or_len_push}
@@ -33,8 +33,10 @@ module _ {K S : Type 0} {eq : K → K → Bool} {m : IndexMap K ℕ S} {keys : L
     where
       absent : get eq m key ≡ None
       absent = is_none_of (get eq m key) unseen
+
       new : (q : K) → get eq n q ≡ cond (eq key q) (Some (length keys)) (get eq m q)
       new q = updated q ∙ ap (λ k. cond (eq key q) (Some k) (get eq m q)) counted
+
       by : (q : K) (b : Bool) → eq key q ≡ b → get eq n q ≡ position (eq q) (keys ++ key ∷ [])
       by q true e =
           let none : position (eq q) keys ≡ None = sym (same_place q e) ∙ sym (old.found key) ∙ absent in
@@ -51,6 +53,7 @@ module _ {K S : Type 0} {eq : K → K → Bool} {m : IndexMap K ℕ S} {keys : L
       kept : (o : Option ℕ) (d : Option ℕ) → is_some o ≡ true → option_or o d ≡ o
       kept None d h = absurd (true≢false (sym h))
       kept (Some n) d h = refl
+
       by : (q : K) (b : Bool) → eq key q ≡ b → get eq m q ≡ position (eq q) (keys ++ key ∷ [])
       by q true e =
           let here : is_some (position (eq q) keys) ≡ true = sym (ap is_some (old.found key ∙ same_place q e)) ∙ there in

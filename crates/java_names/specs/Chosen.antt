@@ -1,5 +1,5 @@
 -- Which method a selector picks in a class (JLS 15.12.4.4).
-use Rattle.std.specs.Prelude.{ℕ, ◌+◌, ◌==◌, List, [], ◌∷◌, map, length, Option, Some, None, option_and_then, if◌then◌else◌}
+use Rattle.std.specs.Prelude.{ℕ, Bool, false, is_none, slice_get, ◌+◌, ◌==◌, List, [], ◌∷◌, map, length, Option, Some, None, option_and_then, if◌then◌else◌}
 use Rattle.std.specs.List.{range_with_len}
 use Rattle.std.specs.Option.{option_map_or, option_or}
 use Rattle.java_names.specs.declared.symbol.MethodSymbol.{MethodSymbol}
@@ -36,3 +36,7 @@ completed n (pick ∷ picks) more = option_or pick (more n) ∷ completed (n + 1
 -- selector number s picks method m, and no other picks any
 abbrev pub only : ℕ → ℕ → ℕ → Option ℕ
 only s m k = if s == k then Some m else None
+
+-- a selector picks nothing yet
+abbrev pub is_free : List (Option ℕ) → ℕ → Bool
+is_free picks s = option_map_or is_none (slice_get picks s) false

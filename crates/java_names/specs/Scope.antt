@@ -1,5 +1,5 @@
 -- The locals in scope, and what a name means at a place (JLS 6.3, 6.4.2, 6.5).
-use Rattle.std.specs.Prelude.{ℕ, Bool, [], ◌∷◌, ◌++◌, length, take, find, Option, Some, None, option_map}
+use Rattle.std.specs.Prelude.{ℕ, Bool, [], ◌∷◌, ◌++◌, length, take, Option, Some, None}
 use Rattle.std.specs.Map.{lookup}
 use Rattle.core_tree.specs.declared.ty.Ty.{Ty}
 use Rattle.class_table.specs.Names.{Name, same_name}

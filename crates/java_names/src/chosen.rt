@@ -14,17 +14,29 @@ fn no_picks(alloc: Global, count: usize) -> Result<Items<Option<u32>>, AllocErro
     Ok(Items::from_vec(vec![in alloc; None; count]?))
 }
 
+/// Whether a selector picks nothing yet.
+fn is_free(picks: &[Option<u32>], selector: usize) -> bool
+    ensures { result ≡ spec.is_free picks.now selector }
+{
+    match picks.get(selector) {
+        Some(pick) => pick.is_none(),
+        None => false,
+    }
+}
+
 /// Lets selector number `selector` pick method number `method`, unless it picks another already.
+#[tactic(auto, using(crate::proofs::ChosenLemmas::picks))]
 fn pick(picks: &mut Items<Option<u32>>, selector: u32, method: u32)
     ensures { picks.new ≡ spec.completed 0 picks.old (spec.only selector method) }
 {
     let at = selector as usize;
-    if let Some(None) = picks.get(at) {
+    if is_free(picks.as_slice(), at) {
         picks.set(at, Some(method));
     }
 }
 
 /// Lets the selector of a method pick it, unless it picks another already.
+#[tactic(auto, using(crate::proofs::ChosenLemmas::nothing_picked))]
 fn pick_method(picks: &mut Items<Option<u32>>, method: &MethodSymbol)
     ensures { picks.new ≡ spec.completed 0 picks.old (λ selector. spec.picked selector method.now) }
 {

@@ -21,6 +21,8 @@ mod numbers;
 mod scope;
 mod selectors;
 mod symbol;
+#[cfg(test)]
+mod tests;
 mod types;
 
 pub use classes::symbols;
@@ -30,4 +32,4 @@ pub use scope::{Locals, Mark, Meaning, Scope};
 pub use symbol::{
     ClassSymbol, FieldSymbol, Fields, MakerSymbol, Makers, MethodSymbol, Methods, Selector, Symbols,
 };
-pub use types::{declared_type, resolve_type, type_of};
+pub use types::{arrays, declared_type, resolve_type, type_of};

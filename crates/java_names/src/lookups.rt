@@ -5,9 +5,7 @@ ghost use Rattle.std.specs.List.{list_any};
 ghost use Rattle.std.specs.Option.{option_copied};
 ghost use Rattle.java_names.specs.Lookups as spec;
 
-use crate::symbol::{
-    ClassSymbol, FieldSymbol, MakerSymbol, MethodSymbol, Selector, Symbols,
-};
+use crate::symbol::{ClassSymbol, FieldSymbol, MakerSymbol, MethodSymbol, Selector, Symbols};
 use java_tokens::Name;
 use sqlite_items::at;
 

@@ -21,14 +21,23 @@ fn message_selector(alloc: Global) -> Result<Selector, AllocError>
     })
 }
 
+impl Selector {
+    /// What methods of this name and number of parameters are called by. `AllocError` where there is no memory left.
+    pub fn new(name: &Name, arity: usize) -> Result<Selector, AllocError>
+        ensures { IfOk result (λ s. s ≡ record { name = name.now; arity = arity }) }
+    {
+        Ok(Selector {
+            name: name.clone()?,
+            arity,
+        })
+    }
+}
+
 /// What a method is called by.
 pub fn selector_of(method: &MethodRow) -> Result<Selector, AllocError>
     ensures { IfOk result (λ s. s ≡ spec.selector_of method.now) }
 {
-    Ok(Selector {
-        name: method.name.clone()?,
-        arity: method.params.len(),
-    })
+    Selector::new(&method.name, method.params.len())
 }
 
 /// Adds what a method is called by, where it is an instance method and no method before it is called so.

@@ -44,10 +44,18 @@ fn base_type(names: &Numbering<Name>, base: &BaseType) -> Option<Ty>
     }
 }
 
-/// The type of arrays with so many pairs of brackets behind this type.
-fn arrays(alloc: Global, ty: Ty, dimensions: u32) -> Result<Ty, AllocError>
+/// How many pairs of brackets a type may have: as many as in a class file (JVMS 4.3.2). A type is copied, compared and
+/// dropped by recursion, so without a limit the stack would be wanting.
+const MAX_DIMENSIONS: u32 = 255;
+
+/// The type of arrays with so many pairs of brackets behind this type (JLS 10.1). `AllocError` where there is no memory
+/// left, or where there are more than 255.
+pub fn arrays(alloc: Global, ty: Ty, dimensions: u32) -> Result<Ty, AllocError>
     ensures { IfOk result (λ t. t ≡ spec.arrays dimensions ty) }
 {
+    if dimensions > MAX_DIMENSIONS {
+        return Err(AllocError);
+    }
     let mut ty = ty;
     for _ in 0..dimensions {
         ty = Ty::Array(Boxed::new(alloc, ty)?);
@@ -56,7 +64,7 @@ fn arrays(alloc: Global, ty: Ty, dimensions: u32) -> Result<Ty, AllocError>
 }
 
 /// The type that is spelled, where the classes have these names; `None` where its name is unknown (JLS 4.2, 4.3).
-/// `AllocError` where there is no memory left.
+/// `AllocError` where there is no memory left, or where it has more than 255 pairs of brackets.
 pub fn type_of(
     alloc: Global,
     names: &Numbering<Name>,
@@ -84,7 +92,8 @@ fn unknown(base: &BaseType) -> CheckError
 /// The type that is spelled, where the classes have these names (JLS 4.2, 4.3).
 ///
 /// # Errors
-/// `Fault` of rule 10 at the name, where that is unknown. `OutOfMemory` where there is no memory left.
+/// `Fault` of rule 10 at the name, where that is unknown. `OutOfMemory` where there is no memory left, or where the type has
+/// more than 255 pairs of brackets.
 pub fn resolve_type(
     alloc: Global,
     names: &Numbering<Name>,

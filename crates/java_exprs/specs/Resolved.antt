@@ -62,9 +62,9 @@ member_core env k =
 -- a call on an object is chosen by its class; through `super` it isn't, and the built-in `getMessage` reads the message
 abbrev pub instance_call : Calling → MethodSymbol → Site → Core
 instance_call k m site = elim k.through [
-    through.Super ↦ option_map_or (λ number. view.Super number (cores k.arguments) site) m.number (view.Message core.This)
+  | through.Super ↦ option_map_or (λ number. view.Super number (cores k.arguments) site) m.number (view.Message core.This)
   | _ ↦ view.Chosen k.object (unwrap_or m.selector 0) (cores k.arguments) site
-  ]
+]
 
 abbrev pub method_core : Environment → Calling → MethodSymbol → Core
 method_core env k m =
@@ -81,7 +81,7 @@ name_core env s x k = option_map_or core.Local (local_named s x.name) (option_ma
 abbrev pub new_core : Environment → Ident → List Attr → Core
 new_core env c xs =
     option_map_or (λ class. option_map_or (λ m. option_map_or (λ number. view.New number (cores xs)) m.number (view.NewBuilt class (first_core xs)))
-        (maker_of env class (length xs)) core.Null)
+    (maker_of env class (length xs)) core.Null)
     (class_named env c.name) core.Null
 
 -- a print's argument, and the methods of a String

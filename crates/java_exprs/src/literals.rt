@@ -27,12 +27,7 @@ fn int_of(n: u64) -> i32
 }
 
 /// A number.
-pub fn number(
-    env: &Environment,
-    scope: &Scope,
-    at: u32,
-    n: u64,
-) -> Result<Typed, CheckError>
+pub fn number(env: &Environment, scope: &Scope, at: u32, n: u64) -> Result<Typed, CheckError>
     ensures { Checks (attr_at env.now scope.now (Expr-F.Number at n)) result }
 {
     if n > GREATEST {

@@ -127,11 +127,7 @@ fn binary_type(op: BinaryOp, l: &Ty, r: &Ty) -> Ty
 {
     match op {
         BinaryOp::BitOr | BinaryOp::BitXor | BinaryOp::BitAnd => {
-            if is_boolean(l) {
-                Ty::Bool
-            } else {
-                Ty::Int
-            }
+            if is_boolean(l) { Ty::Bool } else { Ty::Int }
         }
         BinaryOp::Add => {
             if is_string(l) || is_string(r) {

@@ -1,0 +1,10 @@
+pub mod Types
+pub mod Operators
+pub mod Attr
+pub mod Lookups
+pub mod Members
+pub mod Denotes
+pub mod Resolved
+pub mod Rules
+pub mod Checks
+pub mod Constants

@@ -1,0 +1,19 @@
+use crate::literal::Literal;
+use indexmap::IndexMap;
+use std::marker::Model;
+
+/// The constants that were read so far, by the tokens of their names, with their values; one that breaks a rule has none.
+/// Contracts see a list of pairs.
+#[derive(Drop)]
+pub struct Constants {
+    values: IndexMap<u32, Option<Literal>>,
+}
+
+impl Model for Constants {
+    ghost use Rattle.std.specs.Prelude.{List, ℕ, Option};
+    ghost use Rattle.java_exprs.specs.declared.literal.Literal.{Literal};
+
+    ghost Value = { List (ℕ × Option Literal) };
+
+    ghost view = { λ constants. constants.values.entries };
+}

@@ -24,6 +24,10 @@ class List {
             first = new Node(value, first);
             return;
         }
+        insert_behind(first, value);
+    }
+
+    void insert_behind(Node first, int value) {
         Node at = first;
         while (at.next != null && at.next.value < value) {
             at = at.next;

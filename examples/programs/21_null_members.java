@@ -21,17 +21,25 @@ class Main {
         if (way == 3) {
             return s.length();
         }
+        return use_more(way, m, s, e);
+    }
+
+    static int use_more(int way, Main m, String s, RuntimeException e) {
         if (way == 4) {
             return s.equals("x") ? 1 : 2;
         }
         if (way == 5) {
             return e.getMessage() == null ? 1 : 2;
         }
+        return set(way, m, e);
+    }
+
+    static int set(int way, Main m, RuntimeException e) {
         if (way == 6) {
             throw e;
         }
         m.n = 3;
-        return 0;
+        return m.n;
     }
 
     static void run(int way, Main m, String s, RuntimeException e) {

@@ -20,13 +20,17 @@ class Main {
         return sum;
     }
 
-    public static void main(String[] args) {
-        new Main().tell();
+    static void elements() {
         System.out.println(new boolean[2].length);
         boolean[] truths = new boolean[2];
         String[] texts = new String[1];
         Main[] others = new Main[1];
         System.out.println(truths[1] + " " + texts[0] + " " + (others[0] == null));
+    }
+
+    public static void main(String[] args) {
+        new Main().tell();
+        elements();
         int[][] table = new int[3][];
         table[0] = new int[2];
         table[2] = new int[1];

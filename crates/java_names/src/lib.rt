@@ -21,6 +21,8 @@ mod numbers;
 mod scope;
 mod selectors;
 mod symbol;
+#[cfg(test)]
+mod tests;
 mod types;
 
 pub use classes::symbols;

@@ -1,4 +1,4 @@
-//! What the machine keeps between its steps. None of it is public.
+//! What the machine keeps between its steps. Callers of the machine don't see it.
 
 ghost use Rattle.std.specs.Prelude.{◌≡◌};
 ghost use Rattle.interpreter.specs.Frames.{ended};

@@ -1,13 +1,14 @@
-//! What the machine of the whole language keeps between its steps, and why steps that go on as the parts of a node do make
-//! a whole run.
+//! The machine of the whole language: it runs a resolved program over any store, with explicit frames and no recursion.
 //!
 //! A step of the machine pushes frames and says before which part it stands. `specs/Frames` says what frames make of the
 //! answer of that part, and what it means that the machine goes on as a part goes on; `specs/Points` says how a step leads
-//! each whole run from one point to the next, for every number of steps that may be left. `proofs/Runs` and
-//! `proofs/Steps` show that a machine whose functions go on so does what the reference evaluation does: its outcome, its
-//! output, its steps and its heap. The functions themselves are not here yet.
+//! each whole run from one point to the next, for every number of steps that may be left. `specs/Machine` says what callers
+//! see. `proofs/Runs`, `proofs/Steps` and `proofs/Whole` show that a machine whose functions go on so does what the
+//! reference evaluation does: its outcome, its output, its steps and its heap.
 //!
-//! Read `frame`, `running`, then `specs/Frames` and `specs/Points`.
+//! Read `machine` and `specs/Machine`; then `frame`, `running`, `specs/Frames` and `specs/Points`; then `step`, with
+//! `expressions` and `statements` for nodes that are entered, and `resume` for answers that come back. `proofs/Moves` has
+//! the ways to go on that the functions cite.
 #![tactic(auto)]
 
 mod arguments;

@@ -34,7 +34,8 @@ impl<S: Store + Drop> Machine<S> {
     }
 
     /// Runs a well-typed program with these arguments and a budget of steps. What it prints goes into the sink, a put for each
-    /// print, and it asks for no flush. An argument of more than 1,048,576 code units is `Full(Text)` before the first step.
+    /// print, and it asks for no flush. The store has no object, no mark, and the field types of the program. An argument of
+    /// more than 1,048,576 code units is `Full(Text)` before the first step.
     ///
     /// Every stop but the last two is that of the reference evaluation with this budget, and its output is whole; after
     /// `Done` and `Uncaught` the store holds the heap that it left, and no mark stands. `OutOfMemory`, which may come at any
@@ -61,8 +62,8 @@ impl<S: Store + Drop> Machine<S> {
         }
     }
 
-    /// The same for a program that may not be well typed: `None` where a part of it was reached that has no meaning, and the
-    /// reference evaluation is stuck with this budget.
+    /// The same, over the same kind of store, for a program that may not be well typed: `None` where a part of it was reached
+    /// that has no meaning, and the reference evaluation is stuck with this budget.
     pub fn attempt<O: Sink>(
         &mut self,
         program: &Program,

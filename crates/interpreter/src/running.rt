@@ -1,4 +1,4 @@
-//! A run in progress. None of it is public.
+//! A run in progress. Callers of the machine don't see it.
 
 ghost use Rattle.std.specs.Prelude.{IfOk, OnOk, OnErr, false};
 ghost use Rattle.evaluation.specs.World.{value_then};

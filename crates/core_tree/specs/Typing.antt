@@ -155,6 +155,10 @@ is_castable p to from =
 abbrev pub has_text : PartType → Bool
 has_text part = has (λ t. is_string t || (is_int t || (is_boolean t || is_null t))) part
 
+-- a String or null, as a constant of type String may be
+abbrev pub is_text_or_null : Ty → Bool
+is_text_or_null t = is_string t || is_null t
+
 -- the type of an expression, given those of its parts; none where it isn't well typed
 abbrev pub expr_node : Program → Scope → Expr-F PartType → PartType
 -- a literal; a number lies in the range of int
@@ -172,10 +176,10 @@ expr_node p s (Expr-F.Field object at) = option_and_then (λ c. field_type p c a
 expr_node p s (Expr-F.Length array) = option_and_then (λ e. Some ty.Int) (option_and_then elements_of array)
 -- an array and an int index
 expr_node p s (Expr-F.Element array index) = if has is_int index then option_and_then elements_of array else None
--- a String
-expr_node p s (Expr-F.TextLength text) = where_true (has is_string text) ty.Int
--- a String, and a String or null
-expr_node p s (Expr-F.TextEquals a b) = where_true (has is_string a && fits p ty.Text b) ty.Bool
+-- a String or null
+expr_node p s (Expr-F.TextLength text) = where_true (has is_text_or_null text) ty.Int
+-- two values that are Strings or null
+expr_node p s (Expr-F.TextEquals a b) = where_true (has is_text_or_null a && fits p ty.Text b) ty.Bool
 -- an object of a class at or below Throwable
 expr_node p s (Expr-F.Message object) = where_true (option_map_or (is_throwable p) (option_and_then class_of object) false) ty.Text
 -- a method that is on no object
@@ -198,8 +202,8 @@ expr_node p s (Expr-F.Or a b) = where_true (booleans a b) ty.Bool
 expr_node p s (Expr-F.Cond test a b) = if has is_boolean test then wider p a b else None
 expr_node p s (Expr-F.Cast to from) = where_true (has (is_castable p to) from) to
 expr_node p s (Expr-F.Is to from) = where_true (has (is_castable p to) from) ty.Bool
--- two values that have a text, one of them a String
-expr_node p s (Expr-F.Concat a b) = where_true ((has_text a && has_text b) && (has is_string a || has is_string b)) ty.Text
+-- two values that have a text, one of them a String or null
+expr_node p s (Expr-F.Concat a b) = where_true ((has_text a && has_text b) && (has is_text_or_null a || has is_text_or_null b)) ty.Text
 
 -- the type of an expression in a scope; none where it isn't well typed
 unfoldable pub type_of : Program → Scope → Expr → PartType
@@ -252,8 +256,8 @@ stmt_node p s (Stmt-F.Assign to e) inside = option_map_or (λ t. fits p t (type_
 stmt_node p s (Stmt-F.Update to op e) inside = is_update op (target_type p s to) (operand_type p s e)
 -- an expression of any type, also a call without a result
 stmt_node p s (Stmt-F.Eval e) inside = is_some (type_of p s e)
--- an int, a boolean or a String; only a print that ends a line may have none
-stmt_node p s (Stmt-F.Print line e) inside = if_there p s (has (λ t. is_int t || (is_boolean t || is_string t))) e && (line || is_some e)
+-- a value that has a text; only a print that ends a line may have none
+stmt_node p s (Stmt-F.Print line e) inside = if_there p s has_text e && (line || is_some e)
 stmt_node p s (Stmt-F.If test body other) inside = is_condition p s test && (body inside && option_map_or (λ it. it inside) other true)
 stmt_node p s (Stmt-F.While test body) inside = is_condition p s test && body true
 stmt_node p s (Stmt-F.DoWhile body test) inside = body true && is_condition p s test

@@ -20,7 +20,7 @@ use Rattle.core_tree.specs.declared.program.Maker.{Maker}
 use Rattle.core_tree.specs.declared.program.Program.{Program}
 use Rattle.core_tree.specs.BuiltIn.{is_built_in}
 use Rattle.core_tree.specs.Types.{class_of, elements_of, is_int, is_boolean, is_string, is_null, is_void, is_object, is_subclass, is_assignable, is_value_type}
-use Rattle.core_tree.specs.Typing.{Scope, PartType, has, fits as fits_part, all_fit, where_true, is_int_number, is_throwable, field_type, call_type, chosen_type, is_of_superclass, has_text, wider, is_castable, unary_type, binary_type, bitwise_type, equality_type, ints, booleans, type_of}
+use Rattle.core_tree.specs.Typing.{Scope, PartType, has, fits as fits_part, all_fit, where_true, is_int_number, is_throwable, field_type, call_type, chosen_type, is_of_superclass, has_text, is_text_or_null, wider, is_castable, unary_type, binary_type, bitwise_type, equality_type, ints, booleans, type_of}
 use Rattle.core_tree.specs.Typing as typing
 use Rattle.core_tree.specs.WellTyped.{IsWellTyped, is_maker}
 use Rattle.heap_arena.specs.declared.cell.Cell.TheVariants as value
@@ -35,7 +35,7 @@ use Rattle.evaluation.specs.Calls.{Parts, arguments, dispatch, construct}
 use Rattle.evaluation.specs.Evaluate.{this_value, choose, new_object, new_built_in, expr_node}
 use Rattle.type_safety.specs.Fits.{FitsType, FitsWorld, FitsScope, FitsThis, has_null, types_of_fields}
 use Rattle.type_safety.specs.Ends.{Wanted, Meets, Follows, EndsAs, AreSafe}
-use Rattle.type_safety.proofs.Assignable.{found_passes, class_type, array_type, to_class, int_type, boolean_type, string_type}
+use Rattle.type_safety.proofs.Assignable.{found_passes, class_type, array_type, to_class, int_type, boolean_type, string_type, text_to}
 use Rattle.type_safety.proofs.Lists.{and_l, and_r}
 use Rattle.type_safety.proofs.Lines.{is_subclass_refl}
 use Rattle.type_safety.proofs.Values.{fits_grown, fits_on, of_kind, kind_grown, is_int_int, is_boolean_boolean, has_null_null}
@@ -153,19 +153,19 @@ module _ (p : Program) (typed : IsWellTyped p) (part : Parts) (safe : AreSafe p 
 
   text_length_node_ends : (e : Expr) (t : Ty) (w : World) → TypedLayer (Expr-F.TextLength e) t → FitsScope p s w → EndsAs p (Wanted.ValueOf t) w (expr_node p part (Expr-F.TextLength e) w)
   text_length_node_ends e t w is fits =
-      let test = where_some (has is_string (type_of p s e)) ty.Int t is in
+      let test = where_some (has is_text_or_null (type_of p s e)) ty.Int t is in
       subst (λ r. EndsAs p (Wanted.ValueOf r) w (expr_node p part (Expr-F.TextLength e) w)) test.1
-      (tested_part e is_string (Wanted.ValueOf ty.Int) (λ v. computed p (text_length v)) w test.0 fits (λ a v u string fits_u on of_type.
-      computed_ends p typed ty.Int (text_length v) u fits_u.world (text_length_computes p u.now v (subst (FitsType p u.now v) (string_type a string) of_type))))
+      (tested_part e is_text_or_null (Wanted.ValueOf ty.Int) (λ v. computed p (text_length v)) w test.0 fits (λ a v u string fits_u on of_type.
+      computed_ends p typed ty.Int (text_length v) u fits_u.world (text_length_computes p u.now v (fits_on p u.now v a ty.Text (programs.have_lines p typed) (programs.is_top p typed) of_type (text_to p.classes a string)))))
 
   text_equals_node_ends : (e f : Expr) (t : Ty) (w : World) → TypedLayer (Expr-F.TextEquals e f) t → FitsScope p s w → EndsAs p (Wanted.ValueOf t) w (expr_node p part (Expr-F.TextEquals e f) w)
   text_equals_node_ends e f t w is fits =
-      let test = where_some (has is_string (type_of p s e) && fits_part p ty.Text (type_of p s f)) ty.Bool t is in
+      let test = where_some (has is_text_or_null (type_of p s e) && fits_part p ty.Text (type_of p s f)) ty.Bool t is in
       subst (λ r. EndsAs p (Wanted.ValueOf r) w (expr_node p part (Expr-F.TextEquals e f) w)) test.1
-      (tested_part e is_string (Wanted.ValueOf ty.Bool) (λ x. part.expr f >>= (λ y. computed p (text_equals x y))) w (and_l (has is_string (type_of p s e)) (fits_part p ty.Text (type_of p s f)) test.0) fits (λ a v u string fits_u on of_type.
-      tested_part f (λ from. is_assignable p.classes from ty.Text) (Wanted.ValueOf ty.Bool) (λ y. computed p (text_equals v y)) u (and_r (has is_string (type_of p s e)) (fits_part p ty.Text (type_of p s f)) test.0) fits_u (λ b y x below fits_x further of_other.
+      (tested_part e is_text_or_null (Wanted.ValueOf ty.Bool) (λ x. part.expr f >>= (λ y. computed p (text_equals x y))) w (and_l (has is_text_or_null (type_of p s e)) (fits_part p ty.Text (type_of p s f)) test.0) fits (λ a v u string fits_u on of_type.
+      tested_part f (λ from. is_assignable p.classes from ty.Text) (Wanted.ValueOf ty.Bool) (λ y. computed p (text_equals v y)) u (and_r (has is_text_or_null (type_of p s e)) (fits_part p ty.Text (type_of p s f)) test.0) fits_u (λ b y x below fits_x further of_other.
       computed_ends p typed ty.Bool (text_equals v y) x fits_x.world (text_equals_computes p x.now v y
-      (subst (FitsType p x.now v) (string_type a string) (fits_grown p u.now x.now v a further.grown of_type)) (fits_on p x.now y b ty.Text (programs.have_lines p typed) (programs.is_top p typed) of_other below)))))
+      (fits_on p x.now v a ty.Text (programs.have_lines p typed) (programs.is_top p typed) (fits_grown p u.now x.now v a further.grown of_type) (text_to p.classes a string)) (fits_on p x.now y b ty.Text (programs.have_lines p typed) (programs.is_top p typed) of_other below)))))
 
   -- ---- new objects
 
@@ -294,8 +294,8 @@ module _ (p : Program) (typed : IsWellTyped p) (part : Parts) (safe : AreSafe p 
 
   concat_node_ends : (e f : Expr) (t : Ty) (w : World) → TypedLayer (Expr-F.Concat e f) t → FitsScope p s w → EndsAs p (Wanted.ValueOf t) w (expr_node p part (Expr-F.Concat e f) w)
   concat_node_ends e f t w is fits =
-      let test = where_some ((has_text (type_of p s e) && has_text (type_of p s f)) && (has is_string (type_of p s e) || has is_string (type_of p s f))) ty.Text t is in
-      let texts = and_l (has_text (type_of p s e) && has_text (type_of p s f)) (has is_string (type_of p s e) || has is_string (type_of p s f)) test.0 in
+      let test = where_some ((has_text (type_of p s e) && has_text (type_of p s f)) && (has is_text_or_null (type_of p s e) || has is_text_or_null (type_of p s f))) ty.Text t is in
+      let texts = and_l (has_text (type_of p s e) && has_text (type_of p s f)) (has is_text_or_null (type_of p s e) || has is_text_or_null (type_of p s f)) test.0 in
       subst (λ r. EndsAs p (Wanted.ValueOf r) w (expr_node p part (Expr-F.Concat e f) w)) test.1
       (tested_part e (λ a. has_text (Some a)) (Wanted.ValueOf ty.Text) (λ x. part.expr f >>= (λ y. computed p (concatenated x y))) w (and_l (has_text (type_of p s e)) (has_text (type_of p s f)) texts) fits (λ a v u text_a fits_u on of_type.
       tested_part f (λ b. has_text (Some b)) (Wanted.ValueOf ty.Text) (λ y. computed p (concatenated v y)) u (and_r (has_text (type_of p s e)) (has_text (type_of p s f)) texts) fits_u (λ b y x text_b fits_x further of_other.

@@ -227,19 +227,11 @@ module _ (p : Program) (typed : IsWellTyped p) (part : Parts) (safe : AreSafe p 
   prints_in : (inside : Bool) (bytes : List ℕ) (w : World) → FitsScope p s w → Ends inside w (prints bytes w)
   prints_in inside bytes w fits = record { world = fits; grown = grown_refl w.now; outcome = tt }
 
-  printed_has_text : (a : Ty) → IsTrue (is_int a || (is_boolean a || is_string a)) → IsTrue (has_text (Some a))
-  printed_has_text a is =
-      ⊎_elim (λ int. or_right (is_string a) (is_int a || (is_boolean a || is_null a)) (or_left (is_int a) (is_boolean a || is_null a) int)) (λ rest.
-      ⊎_elim (λ boolean. or_right (is_string a) (is_int a || (is_boolean a || is_null a)) (or_right (is_int a) (is_boolean a || is_null a) (or_left (is_boolean a) (is_null a) boolean)))
-      (λ string. or_left (is_string a) (is_int a || (is_boolean a || is_null a)) string)
-      (or_cases (is_boolean a) (is_string a) rest))
-      (or_cases (is_int a) (is_boolean a || is_string a) is)
-
-  print_in : (inside line : Bool) (e : Option Expr) (w : World) → IsTrue (if_there p s (has (λ t. is_int t || (is_boolean t || is_string t))) e && (line || is_some e)) → FitsScope p s w → Ends inside w (stmt_node p part (Stmt-F.Print line e) w)
+  print_in : (inside line : Bool) (e : Option Expr) (w : World) → IsTrue (if_there p s has_text e && (line || is_some e)) → FitsScope p s w → Ends inside w (stmt_node p part (Stmt-F.Print line e) w)
   print_in inside line None w passes fits = prints_in inside (printed line []) w fits
   print_in inside line (Some e) w passes fits =
-      tested_part_in e (λ t. is_int t || (is_boolean t || is_string t)) (Wanted.StatementEnd s.answer inside) (print_value line) w (and_l (has (λ t. is_int t || (is_boolean t || is_string t)) (type_of p s e)) (line || true) passes) fits (λ a v u printable fits_u on of_type.
-      let text = has_a_text p u.now v a (printed_has_text a printable) of_type in
+      tested_part_in e (λ t. has_text (Some t)) (Wanted.StatementEnd s.answer inside) (print_value line) w (and_l (has_text (type_of p s e)) (line || true) passes) fits (λ a v u printable fits_u on of_type.
+      let text = has_a_text p u.now v a printable of_type in
       subst (λ t. Ends inside u (option_map_or (λ t. prints (printed line t)) t (gives outcome.Stuck) u)) (sym text.1) (prints_in inside (printed line text.0) u fits_u))
 
   -- ---- loops

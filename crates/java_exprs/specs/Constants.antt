@@ -1,6 +1,6 @@
 -- The values of constants: what an initialiser is, by what its parts are (JLS 15.29). It is made of literals, constants that
 -- are declared earlier in the file, and operators, casts and `instanceof` being no such operators.
-use Rattle.std.specs.Prelude.{ℕ, pos, ◌==◌, List, [], ◌∷◌, Option, Some, None, find, option_map}
+use Rattle.std.specs.Prelude.{ℕ, pos, nat_le, if◌then◌else◌, ◌==◌, List, [], ◌∷◌, Option, Some, None, find, option_map}
 use Rattle.pb_int.specs.Int32.{wrap}
 use Rattle.java_syntax.specs.declared.name.Ident.{Ident}
 use Rattle.java_syntax.specs.declared.expression.Expr.{Expr}
@@ -45,7 +45,7 @@ behind_folded env (folded.Class c) x = found_folded env (member_of env c x)
 behind_folded env _ x = folded.Other
 
 abbrev pub folded_at : Environment → Scope → Expr-F Folded → Folded
-folded_at env s (Expr-F.Number at n) = gives_int (wrap (pos n))
+folded_at env s (Expr-F.Number at n) = if nat_le n 2_147_483_648 then gives_int (wrap (pos n)) else folded.Unknown
 folded_at env s (Expr-F.Text at t) = text_folded t
 folded_at env s (Expr-F.Bool at b) = gives_bool b
 folded_at env s (Expr-F.Null at) = folded.Gives literal.Null

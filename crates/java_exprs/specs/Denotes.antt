@@ -19,9 +19,9 @@ use Rattle.java_exprs.specs.declared.typed.Denotation.{Denotation}
 use Rattle.java_exprs.specs.declared.typed.Denotation.TheVariants as denotes
 use Rattle.java_exprs.specs.declared.typed.Form.{Form}
 use Rattle.java_exprs.specs.declared.typed.Form.TheVariants as form
-use Rattle.java_exprs.specs.Types.{wider}
+use Rattle.java_exprs.specs.Types.{is_either_way, wider}
 use Rattle.java_exprs.specs.Attr.{Attr, Node, value_type}
-use Rattle.java_exprs.specs.Members.{Naming, Calling, naming, calling}
+use Rattle.java_exprs.specs.Members.{Naming, Calling, naming, calling, named_member}
 use Rattle.java_exprs.specs.Lookups.{member_of, method_of, class_named, local_named, local_denotes, variable_denotes, answer_denotes, type_named, elements_named}
 
 -- ---- names of the library
@@ -54,7 +54,7 @@ value t = option_map denotes.Value t
 
 -- a field or a constant
 abbrev pub member_denotes : Environment → Naming → Option Denotation
-member_denotes env k = option_and_then (λ m. variable_denotes m.ty) (member_of env k.class k.name.name)
+member_denotes env k = option_and_then (λ m. variable_denotes m.ty) (named_member env k)
 
 -- a method's result
 abbrev pub call_denotes : Environment → Calling → Option Denotation
@@ -119,9 +119,9 @@ binary_type binary.GreaterEqual a b = Some ty.Bool
 binary_type binary.Add a b = sum_type a b
 binary_type _ a b = Some ty.Int
 
--- the wider of the two
+-- the wider of the two, where one of them can be assigned to the other's type
 abbrev pub choice_type : Environment → Option Ty → Option Ty → Option Ty
-choice_type env (Some a) (Some b) = Some (wider env.symbols a b)
+choice_type env (Some a) (Some b) = if is_either_way env.symbols a b then Some (wider env.symbols a b) else None
 choice_type env _ _ = None
 
 -- ---- all kinds of nodes
@@ -151,7 +151,7 @@ denotes_of env s (Expr-F.Conditional c a b) = value (choice_type env (value_type
 
 -- an instance field can be assigned to, a constant can't
 abbrev pub member_form : Environment → Naming → Form
-member_form env k = option_map_or (λ m. if is_some m.place then form.Variable else form.Constant k.name.at) (member_of env k.class k.name.name) form.Other
+member_form env k = option_map_or (λ m. if is_some m.place then form.Variable else form.Constant k.name.at) (named_member env k) form.Other
 
 -- parentheses change nothing of a variable or a constant
 abbrev pub form_inside : Form → Form

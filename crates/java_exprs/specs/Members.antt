@@ -1,5 +1,5 @@
 -- Through what a field or a method is named: `this`, `super`, a class or an object (JLS 15.11, 15.12).
-use Rattle.std.specs.Prelude.{ℕ, List, Option, Some, None, option_map, option_and_then, is_some, if◌then◌else◌}
+use Rattle.std.specs.Prelude.{ℕ, Bool, true, false, not, ◌||◌, List, Option, Some, None, option_map, option_and_then, is_some, if◌then◌else◌}
 use Rattle.core_tree.specs.declared.ty.Ty.{Ty}
 use Rattle.core_tree.specs.declared.expr.Expr.{Expr as Core}
 use Rattle.core_tree.specs.declared.expr.Expr.TheVariants as core
@@ -12,8 +12,9 @@ use Rattle.java_exprs.specs.declared.typed.Denotation.TheVariants as denotes
 use Rattle.java_exprs.specs.declared.through.Through.{Through}
 use Rattle.java_exprs.specs.declared.through.Through.TheVariants as through
 use Rattle.java_names.specs.declared.scope.Scope.{Scope}
+use Rattle.java_names.specs.declared.symbol.FieldSymbol.{FieldSymbol}
 use Rattle.java_exprs.specs.Attr.{Attr, Node, value_type}
-use Rattle.java_exprs.specs.Lookups.{superclass_of, local_named}
+use Rattle.java_exprs.specs.Lookups.{member_of, superclass_of, local_named}
 
 -- the class of an object
 abbrev pub object_class : Option Denotation → Option ℕ
@@ -39,6 +40,18 @@ abbrev pub naming : Environment → Scope → Node → Option Naming
 naming env s (Expr-F.Name x) = where_no_local s x (record { through = through.This; class = s.class; object = core.This; name = x })
 naming env s (Expr-F.Field o f) = naming_behind o f o.denotes
 naming env s _ = None
+
+abbrev pub is_behind_object : Through → Bool
+is_behind_object through.Object = true
+is_behind_object _ = false
+
+-- behind an object only instance fields are found
+abbrev pub is_found : Through → FieldSymbol → Bool
+is_found through m = is_some m.place || not (is_behind_object through)
+
+-- the field or constant that a node names
+abbrev pub named_member : Environment → Naming → Option FieldSymbol
+named_member env k = option_and_then (λ m. if is_found k.through m then Some m else None) (member_of env k.class k.name.name)
 
 -- a method that a node calls: where it is looked up, by which name, the object before the dot, and the arguments
 pub record Calling : Type 0 where

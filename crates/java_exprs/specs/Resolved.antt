@@ -31,9 +31,9 @@ use Rattle.java_exprs.specs.declared.typed.Denotation.TheVariants as denotes
 use Rattle.java_exprs.specs.declared.through.Through.{Through}
 use Rattle.java_exprs.specs.declared.through.Through.TheVariants as through
 use Rattle.java_exprs.specs.Attr.{Attr, Node, value_type}
-use Rattle.java_exprs.specs.Members.{Naming, Calling, naming, calling}
+use Rattle.java_exprs.specs.Members.{Naming, Calling, naming, calling, named_member}
 use Rattle.java_exprs.specs.Denotes.{is_text, is_print, equals_name}
-use Rattle.java_exprs.specs.Lookups.{member_of, method_of, class_named, local_named, maker_of, type_named, elements_named, constant_at}
+use Rattle.java_exprs.specs.Lookups.{method_of, class_named, local_named, maker_of, type_named, elements_named, constant_at}
 
 abbrev pub cores : List Attr → List Core
 cores es = map (λ e. e.core) es
@@ -57,7 +57,7 @@ literal_core literal.Null = core.Null
 abbrev pub member_core : Environment → Naming → Core
 member_core env k =
     option_map_or (λ m. option_map_or (λ place. view.Field k.object place) m.place (option_map_or literal_core (constant_at env m.at) core.Null))
-    (member_of env k.class k.name.name) core.Null
+    (named_member env k) core.Null
 
 -- a call on an object is chosen by its class; through `super` it isn't, and the built-in `getMessage` reads the message
 abbrev pub instance_call : Calling → MethodSymbol → Site → Core

@@ -25,7 +25,7 @@ use Rattle.java_exprs.specs.declared.through.Through.{Through}
 use Rattle.java_exprs.specs.declared.through.Through.TheVariants as through
 use Rattle.java_exprs.specs.Types.{is_assignable, is_either_way, is_printed}
 use Rattle.java_exprs.specs.Attr.{Attr, Node, value_type, unless, only_if, of_rule, value_faults, values_faults, negated_faults, prefix_faults}
-use Rattle.java_exprs.specs.Members.{Naming, Calling, naming, calling}
+use Rattle.java_exprs.specs.Members.{Naming, Calling, naming, calling, named_member}
 use Rattle.java_exprs.specs.Denotes.{system_name, is_print, println_name, out_name, length_name, equals_name}
 use Rattle.java_exprs.specs.Lookups.{member_of, has_method, method_of, class_named, local_named, maker_of, unknown_type, unknown_base, type_named}
 
@@ -58,19 +58,12 @@ is_array t = is_some (elements_of t)
 
 -- ---- fields and methods, through `this`, `super`, a class or an object
 
-abbrev pub member_at : Environment → Naming → Option FieldSymbol
-member_at env k = member_of env k.class k.name.name
-
 abbrev pub method_at : Environment → Calling → Option MethodSymbol
 method_at env k = method_of env k.class k.name.name (length k.arguments)
 
 abbrev pub is_behind_class : Through → Bool
 is_behind_class through.Class = true
 is_behind_class _ = false
-
-abbrev pub is_behind_object : Through → Bool
-is_behind_object through.Object = true
-is_behind_object _ = false
 
 -- `super.m()` is a call on an object
 abbrev pub is_on_object : Through → Bool
@@ -83,10 +76,6 @@ abbrev pub needs_this : Through → Bool
 needs_this through.This = true
 needs_this through.Class = true
 needs_this _ = false
-
--- behind an object only instance fields are found
-abbrev pub is_found : Naming → FieldSymbol → Bool
-is_found k m = is_some m.place || not (is_behind_object k.through)
 
 -- ---- 10: a name is unknown
 
@@ -107,7 +96,7 @@ method_10 m (Some (denotes.Value t)) = unless (not (has_members t) || (is_string
 method_10 m _ = []
 
 abbrev pub naming_10 : Environment → Naming → List ℕ
-naming_10 env k = unless (option_map_or (is_found k) (member_at env k) false) k.name.at
+naming_10 env k = unless (is_some (named_member env k)) k.name.at
 
 abbrev pub calling_10 : Environment → Calling → List ℕ
 calling_10 env k = unless (has_method env k.class k.name.name) k.name.at
@@ -132,7 +121,7 @@ rule_10 env s _ = []
 
 -- an instance field behind a class
 abbrev pub naming_11 : Environment → Naming → List ℕ
-naming_11 env k = only_if (is_behind_class k.through && option_map_or (λ m. is_some m.place) (member_at env k) false) k.name.at
+naming_11 env k = only_if (is_behind_class k.through && option_map_or (λ m. is_some m.place) (named_member env k) false) k.name.at
 
 -- an instance method behind a class, or a static one on an object
 abbrev pub is_misplaced : Through → MethodSymbol → Bool
@@ -161,9 +150,16 @@ unary_11 _ e = wants is_int e
 abbrev pub both_11 : (Ty → Bool) → Attr → Attr → List ℕ
 both_11 test l r = wants test l ++ wants test r
 
--- two ints or two booleans
+-- an int or a boolean, and the same behind it
+abbrev pub is_bitwise : Ty → Bool
+is_bitwise t = is_int t || is_boolean t
+
+abbrev pub fits_bitwise : Option Ty → Ty → Bool
+fits_bitwise (Some a) b = if is_int a then is_int b else (if is_boolean a then is_boolean b else is_bitwise b)
+fits_bitwise None b = is_bitwise b
+
 abbrev pub bitwise_11 : Attr → Attr → List ℕ
-bitwise_11 l r = option_map_or (λ t. if is_boolean t then wants is_boolean r else both_11 is_int l r) (value_type l.denotes) []
+bitwise_11 l r = wants is_bitwise l ++ wants (fits_bitwise (value_type l.denotes)) r
 
 -- two values of which one can be assigned to the other's type; Strings are for rule 16
 abbrev pub equality_11 : Environment → Attr → Attr → List ℕ
@@ -231,7 +227,7 @@ rule_12 env s _ = []
 -- ---- 13: a private member is named outside its class
 
 abbrev pub naming_13 : Environment → Scope → Naming → List ℕ
-naming_13 env s k = option_map_or (λ m. unless (is_accessible s.class m.owner m.is_private) k.name.at) (member_at env k) []
+naming_13 env s k = option_map_or (λ m. unless (is_accessible s.class m.owner m.is_private) k.name.at) (named_member env k) []
 
 abbrev pub calling_13 : Environment → Scope → Calling → List ℕ
 calling_13 env s k = option_map_or (λ m. unless (is_accessible s.class m.owner m.is_private) k.name.at) (method_at env k) []
@@ -251,7 +247,7 @@ rule_13 env s _ = []
 -- ---- 14: `this`, `super` or an instance member in a static method or constant
 
 abbrev pub naming_14 : Environment → Scope → Naming → List ℕ
-naming_14 env s k = only_if (s.is_static && (needs_this k.through && option_map_or (λ m. is_some m.place) (member_at env k) false)) k.name.at
+naming_14 env s k = only_if (s.is_static && (needs_this k.through && option_map_or (λ m. is_some m.place) (named_member env k) false)) k.name.at
 
 abbrev pub calling_14 : Environment → Scope → Calling → List ℕ
 calling_14 env s k = only_if (s.is_static && (needs_this k.through && option_map_or (λ m. not m.is_static) (method_at env k) false)) k.name.at
@@ -265,11 +261,11 @@ rule_14 env s (Expr-F.Call m xs) = option_map_or (calling_14 env s) (calling env
 rule_14 env s (Expr-F.Method o m xs) = option_map_or (calling_14 env s) (calling env s (Expr-F.Method o m xs)) []
 rule_14 env s _ = []
 
--- ---- 15: a cast or `instanceof` between types neither of which is assignable to the other, or to String
+-- ---- 15: a cast or `instanceof` between types neither of which is assignable to the other, or to a type of no objects, as String
 
 abbrev pub cast_15 : Environment → ℕ → Option Ty → Attr → List ℕ
 cast_15 env at to e =
-    option_map_or (λ t. if is_string t then at ∷ [] else option_map_or (λ from. unless (is_either_way env.symbols from t) at) (value_type e.denotes) []) to []
+    option_map_or (λ t. if is_object t then option_map_or (λ from. unless (is_either_way env.symbols from t) at) (value_type e.denotes) [] else at ∷ []) to []
 
 abbrev pub rule_15 : Environment → Node → List ℕ
 rule_15 env (Expr-F.Cast at t e) = cast_15 env at (type_named env t) e

@@ -37,7 +37,7 @@ pub fn named_type(alloc: Global, env: &Environment, tree: &TypeTree) -> Result<T
 fn check_cast(env: &Environment, at: u32, to: &Ty, e: &Value) -> Result<(), CheckError>
     ensures { Allows (of_rule 15 (rule.cast_15 env.now at (Some to.now) (of_value e.now)) []) result }
 {
-    if is_string(to) || !is_either_way(&env.symbols, &e.ty, to) {
+    if !is_object(to) || !is_either_way(&env.symbols, &e.ty, to) {
         return Err(fault(15, at));
     }
     Ok(())

@@ -65,11 +65,13 @@ fn want_booleans(l: &Value, r: &Value) -> Result<(), CheckError>
 fn want_alike(l: &Value, r: &Value) -> Result<(), CheckError>
     ensures { Allows (of_rule 11 (rule.bitwise_11 (of_value l.now) (of_value r.now)) []) result }
 {
-    if is_boolean(&l.ty) {
-        wants_boolean(r)
-    } else {
-        want_ints(l, r)
+    if is_int(&l.ty) {
+        return wants_int(r);
     }
+    if is_boolean(&l.ty) {
+        return wants_boolean(r);
+    }
+    Err(fault(11, l.at))
 }
 
 // Sees that the operands can be compared.

@@ -56,9 +56,17 @@ constant_faults env c f = option_map_or (constant_faults_of env c f) f.value [] 
 abbrev pub with_constants : Environment → List (ℕ × Option Literal) → Environment
 with_constants env constants = record env { constants = constants }
 
+-- a constant that breaks a rule has no value
+abbrev pub where_sound : List Fault → Option Literal → Option Literal
+where_sound [] value = value
+where_sound (f ∷ fs) value = None
+
+abbrev pub constant_value : Environment → ℕ → FieldTree → Option Literal
+constant_value env c f = where_sound (constant_faults env c f) (literal_of (initialiser_folded env c f))
+
 abbrev pub read_constant : Environment → ℕ → FieldTree → Reading → Reading
 read_constant env c f before = record {
-  constants = before.constants ++ (f.name.at, literal_of (initialiser_folded (with_constants env before.constants) c f)) ∷ [];
+  constants = before.constants ++ (f.name.at, constant_value (with_constants env before.constants) c f) ∷ [];
   faults = before.faults ++ constant_faults (with_constants env before.constants) c f;
 }
 

@@ -26,7 +26,7 @@ use Rattle.java_names.specs.Types.{declared_type, answer_type}
 use Rattle.java_exprs.specs.declared.environment.Environment.{Environment}
 use Rattle.java_exprs.specs.Attr.{unless, only_if, of_rule}
 use Rattle.java_exprs.specs.Lookups.{class_named, type_named, unknown_type}
-use Rattle.java_types.specs.Statements.{again_10}
+use Rattle.java_types.specs.Statements.{again_10, exception_10, exception_11}
 
 -- ---- 20 (1) to (5): modifiers (JLS 8.3.1, 8.4.3, 8.8.3); at the name
 
@@ -100,14 +100,6 @@ params_10 env (p ∷ ps) s = (unknown_type env p.ty ++ again_10 s p.name) ++ par
 abbrev pub answer_10 : Environment → Option TypeTree → List ℕ
 answer_10 env t = option_map_or (unknown_type env) t []
 
--- a class behind `throws` is known
-abbrev pub thrown_10 : Environment → Ident → List ℕ
-thrown_10 env c = unless (is_some (class_named env c.name)) c.at
-
--- and at or below Throwable
-abbrev pub thrown_11 : Environment → Ident → List ℕ
-thrown_11 env c = option_map_or (λ class. unless (is_below env.symbols class 1) c.at) (class_named env c.name) []
-
 -- the scope of a method's body, without and with its parameters
 abbrev pub method_scope : Environment → ℕ → MethodTree → Scope
 method_scope env c m = first_scope c (is_static m.mods) (answer_type env.symbols.names m.answer)
@@ -122,13 +114,13 @@ constant_scope c = first_scope c true ty.Void
 
 abbrev pub declared_10 : Environment → ℕ → Member → List ℕ
 declared_10 env c (member.Field f) = unknown_type env f.ty
-declared_10 env c (member.Method m) = answer_10 env m.answer ++ (params_10 env m.params (method_scope env c m) ++ flat_map (thrown_10 env) m.throws)
-declared_10 env c (member.Maker m) = params_10 env m.params (maker_scope c) ++ flat_map (thrown_10 env) m.throws
+declared_10 env c (member.Method m) = answer_10 env m.answer ++ (params_10 env m.params (method_scope env c m) ++ flat_map (exception_10 env) m.throws)
+declared_10 env c (member.Maker m) = params_10 env m.params (maker_scope c) ++ flat_map (exception_10 env) m.throws
 declared_10 env c member.Empty = []
 
 abbrev pub declared_11 : Environment → Member → List ℕ
-declared_11 env (member.Method m) = flat_map (thrown_11 env) m.throws
-declared_11 env (member.Maker m) = flat_map (thrown_11 env) m.throws
+declared_11 env (member.Method m) = flat_map (exception_11 env) m.throws
+declared_11 env (member.Maker m) = flat_map (exception_11 env) m.throws
 declared_11 env _ = []
 
 abbrev pub declared_20 : Environment → Member → List ℕ

@@ -31,7 +31,7 @@ use Rattle.java_syntax.specs.declared.statement.Stmt.TheFolds.{fold-Stmt, fold-C
 use Rattle.java_names.specs.declared.scope.Scope.{Scope}
 use Rattle.java_names.specs.Lookups.{is_below}
 use Rattle.java_names.specs.Scope.{declared, left}
-use Rattle.java_names.specs.Types.{declared_type}
+use Rattle.java_names.specs.Types.{declared_type, is_string as is_string_name}
 use Rattle.java_exprs.specs.declared.environment.Environment.{Environment}
 use Rattle.java_exprs.specs.declared.typed.Denotation.{Denotation}
 use Rattle.java_exprs.specs.declared.typed.Denotation.TheVariants as denotes
@@ -146,8 +146,12 @@ abbrev pub stmt_10 : Environment → StmtNode → Scope → List ℕ
 stmt_10 env (Stmt-F.Local t) s = unknown_type env t.ty ++ again_10 s t.name
 stmt_10 env _ s = []
 
+-- a class behind `catch` or `throws` is known; String is a type, and is for rule 11
+abbrev pub exception_10 : Environment → Ident → List ℕ
+exception_10 env c = unless (is_some (class_named env c.name) || is_string_name c.name) c.at
+
 abbrev pub catch_10 : Environment → CatchNode → Scope → List ℕ
-catch_10 env c s = unless (is_some (class_named env c.class.name)) c.class.at ++ again_10 s c.name
+catch_10 env c s = exception_10 env c.class ++ again_10 s c.name
 
 -- ---- 11: a type doesn't fit
 
@@ -188,9 +192,12 @@ stmt_11 env (Stmt-F.Return at e) s = return_11 env at e s
 stmt_11 env (Stmt-F.Throw e) s = wants_type env throwable (attr env s e)
 stmt_11 env _ s = []
 
--- a catch clause takes a class at or below Throwable
+-- a class behind `catch` or `throws` is Throwable or below it
+abbrev pub exception_11 : Environment → Ident → List ℕ
+exception_11 env c = option_map_or (λ class. unless (is_below env.symbols class 1) c.at) (class_named env c.name) (only_if (is_string_name c.name) c.at)
+
 abbrev pub catch_11 : Environment → CatchNode → List ℕ
-catch_11 env c = option_map_or (λ class. unless (is_below env.symbols class 1) c.class.at) (class_named env c.class.name) []
+catch_11 env c = exception_11 env c.class
 
 -- ---- 14: `super(..)` other than as the first statement of a constructor; that one is read with the constructor
 
@@ -217,8 +224,9 @@ is_target form.Variable = true
 is_target (form.Constant at) = true
 is_target _ = false
 
+-- nothing is asked of a target whose name is unknown
 abbrev pub target_18 : Attr → List ℕ
-target_18 a = unless (is_target a.form) a.at
+target_18 a = unless (is_none a.denotes || is_target a.form) a.at
 
 abbrev pub stmt_18 : Environment → StmtNode → Scope → List ℕ
 stmt_18 env (Stmt-F.Assign a op e) s = target_18 (attr env s a)

@@ -32,4 +32,4 @@ pub use scope::{Locals, Mark, Meaning, Scope};
 pub use symbol::{
     ClassSymbol, FieldSymbol, Fields, MakerSymbol, Makers, MethodSymbol, Methods, Selector, Symbols,
 };
-pub use types::{arrays, declared_type, resolve_type, type_of};
+pub use types::{arrays, declared_type, resolve_base, resolve_type, type_of};

@@ -89,6 +89,21 @@ fn unknown(base: &BaseType) -> CheckError
     CheckError::Fault(Fault { rule: 10, at })
 }
 
+/// The type of a base without brackets, where the classes have these names (JLS 4.2, 4.3).
+///
+/// # Errors
+/// `Fault` of rule 10 at its name, where that is unknown.
+pub fn resolve_base(names: &Numbering<Name>, base: &BaseType) -> Result<Ty, CheckError>
+    ensures found { IfOk result (λ t. spec.base_type names.now base.now ≡ Some t) }
+    ensures known { OnOk result (spec.unknown_base names.now base.now ≡ []) }
+    ensures fault { IfErr result (Blames (OfRule 10 (λ at. spec.unknown_base names.now base.now ≡ at ∷ []))) }
+{
+    match base_type(names, base) {
+        Some(ty) => Ok(ty),
+        None => Err(unknown(base)),
+    }
+}
+
 /// The type that is spelled, where the classes have these names (JLS 4.2, 4.3).
 ///
 /// # Errors
@@ -103,10 +118,8 @@ pub fn resolve_type(
     ensures known { OnOk result (spec.unknown_type names.now tree.now ≡ []) }
     ensures fault { IfErr result (Blames (OfRule 10 (λ at. spec.unknown_type names.now tree.now ≡ at ∷ []))) }
 {
-    match type_of(alloc, names, tree)? {
-        Some(ty) => Ok(ty),
-        None => Err(unknown(&tree.base)),
-    }
+    let base = resolve_base(names, &tree.base)?;
+    Ok(arrays(alloc, base, tree.dimensions)?)
 }
 
 /// The type of a declaration; `Void` where its name is unknown.

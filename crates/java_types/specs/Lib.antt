@@ -4,3 +4,4 @@ pub mod Declarations
 pub mod Constants
 pub mod Bodies
 pub mod Files
+pub mod Answers

@@ -1,0 +1,29 @@
+//! Numbers of classes and methods.
+
+ghost use Rattle.std.specs.Prelude.{◌≡◌, ◌+◌, IfOk, suc};
+
+use std::alloc::AllocError;
+
+/// The number of the first class of the file.
+pub const FIRST_CLASS: u32 = 18;
+
+/// The sum of two counts. `AllocError` where it is no `u32`.
+pub fn sum(number: u32, count: usize) -> Result<u32, AllocError>
+    ensures { IfOk result (λ next. next ≡ number + count) }
+{
+    let left = u32::MAX - number;
+    if count > left as usize {
+        return Err(AllocError);
+    }
+    Ok(number + count as u32)
+}
+
+/// The number behind this one. `AllocError` where there is none.
+pub fn following(number: u32) -> Result<u32, AllocError>
+    ensures { IfOk result (λ next. next ≡ suc number) }
+{
+    if number == u32::MAX {
+        return Err(AllocError);
+    }
+    Ok(number + 1)
+}

@@ -1,0 +1,12 @@
+//! Rule 23: a checked exception is neither caught nor declared.
+//!
+//! Read `specs/Classes` (which classes are checked, and what covers one), `specs/Points` and `specs/Statements` (where an
+//! expression and a statement may throw), and `specs/Files`, whose `faults_of` is what the crate is about.
+#![tactic(auto)]
+
+mod calls;
+mod handlers;
+mod known;
+mod library;
+mod names;
+mod types;

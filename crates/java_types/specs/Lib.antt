@@ -4,4 +4,3 @@ pub mod Declarations
 pub mod Constants
 pub mod Bodies
 pub mod Files
-pub mod Answers

@@ -1,5 +1,0 @@
-pub mod Classes
-pub mod Points
-pub mod Statements
-pub mod Files
-pub mod Walks

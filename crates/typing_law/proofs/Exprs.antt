@@ -22,7 +22,7 @@ use Rattle.typing_law.proofs.Operators.{unary_right, binary_right, conditional_r
 use Rattle.typing_law.proofs.NodeKinds as kinds
 use Rattle.typing_law.proofs.Dots.{field_right, method_right}
 
-module _ (env : Environment) (p : Program) (agrees : Agrees env p) (s : Scope) (cs : CoreScope) (inside : AgreesOnScope env p s cs) (casts : (at : ℕ) (t : TypeTree) (e : Attr) → rule_15 env (Expr-F.Cast at t e) ≡ [] → (to : Ty) → type_named env t ≡ Some to → IsTrue (is_object to)) where
+module _ (env : Environment) (p : Program) (agrees : Agrees env p) (s : Scope) (cs : CoreScope) (inside : AgreesOnScope env p s cs) where
   abbrev IsDone : Expr → Type 0
   IsDone e = Holds p cs (attr env s e)
 
@@ -49,7 +49,7 @@ module _ (env : Environment) (p : Program) (agrees : Agrees env p) (s : Scope) (
   node (Expr-F.Method o m xs) = method_right env p agrees s cs inside (attr env s o.0) m (map (attr env s) (map (λ d. d.0) xs)) o.1 (all_done xs)
   node (Expr-F.Element a i) = kinds.element_right env p agrees s cs inside (attr env s a.0) (attr env s i.0) a.1 i.1
   node (Expr-F.Unary at op e) = unary_right env p agrees s cs op at (attr env s e.0) e.1
-  node (Expr-F.Cast at t e) = kinds.cast_right env p agrees s cs inside at t (attr env s e.0) (casts at t (attr env s e.0)) e.1
+  node (Expr-F.Cast at t e) = kinds.cast_right env p agrees s cs inside at t (attr env s e.0) e.1
   node (Expr-F.Binary op l r) = binary_right env p agrees s cs op (attr env s l.0) (attr env s r.0) l.1 r.1
   node (Expr-F.InstanceOf e t) = kinds.instance_of_right env p agrees s cs inside (attr env s e.0) t e.1
   node (Expr-F.Conditional c a b) = conditional_right env p agrees s cs (attr env s c.0) (attr env s a.0) (attr env s b.0) c.1 a.1 b.1

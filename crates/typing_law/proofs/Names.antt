@@ -34,11 +34,11 @@ use Rattle.java_exprs.specs.declared.typed.Form.TheVariants as form
 use Rattle.java_exprs.specs.declared.through.Through.{Through}
 use Rattle.java_exprs.specs.declared.through.Through.TheVariants as through
 use Rattle.java_exprs.specs.Attr.{Attr, unless, only_if, values_faults}
-use Rattle.java_exprs.specs.Members.{Naming, Calling}
+use Rattle.java_exprs.specs.Members.{Naming, Calling, is_found, named_member}
 use Rattle.java_exprs.specs.Lookups.{superclass_of, member_of, method_of, has_method, constant_at, variable_denotes, answer_denotes}
 use Rattle.java_exprs.specs.Denotes.{member_denotes, member_form, call_denotes}
 use Rattle.java_exprs.specs.Resolved.{cores, literal_core, member_core, instance_call, method_core, call_core, site_at}
-use Rattle.java_exprs.specs.Rules.{is_behind_class, is_on_object, needs_this, is_found, is_misplaced, member_at, method_at, naming_10, naming_11, naming_14, calling_10, calling_11, calling_12, calling_14, wants_each}
+use Rattle.java_exprs.specs.Rules.{is_behind_class, is_on_object, needs_this, is_misplaced, method_at, naming_10, naming_11, naming_14, calling_10, calling_11, calling_12, calling_14, wants_each}
 use Rattle.typing_law.specs.Means.{HasType, Means, MeansForm, IsPlace, is_place}
 use Rattle.typing_law.specs.Agrees.{Agrees, AgreesOnField, AgreesOnStatic, AgreesOnMethod, AgreesOnSuper, AgreesOnScope, is_literal_of}
 use Rattle.typing_law.proofs.TypeFacts as facts
@@ -50,10 +50,18 @@ use Rattle.typing_law.proofs.Arguments.{AllHold, arguments_fit}
 
 -- ---- what is found
 
--- a test that holds of what is found
-found_passes : {X : Type 0} (test : X → Bool) (found : Option X) → option_map_or test found false ≡ true → (x : X) × (found ≡ Some x) × IsTrue (test x)
-found_passes test None is = absurd (false≢true is)
-found_passes test (Some x) is = (x, refl, is)
+-- what is found and passes a test is found
+pub of_found : {X : Type 0} (test : X → Bool) (found : Option X) (x : X) → option_and_then (λ y. if test y then Some y else None) found ≡ Some x → found ≡ Some x
+of_found test None x is = absurd (none-some x is)
+of_found test (Some y) x is = cases (test y) is
+  where
+    cases : (b : Bool) → (if b then Some y else None) ≡ Some x → Some y ≡ Some x
+    cases true is = is
+    cases false is = absurd (none-some x is)
+
+some_there : {X : Type 0} (found : Option X) → is_some found ≡ true → (x : X) × (found ≡ Some x)
+some_there None is = absurd (false≢true is)
+some_there (Some x) is = (x, refl)
 
 there : {X : Type 0} (found : Option X) → is_none found ≡ false → (x : X) × (found ≡ Some x)
 there None is = absurd (false≢true (sym is))
@@ -171,10 +179,10 @@ module _ (env : Environment) (p : Program) (agrees : Agrees env p) (s : Scope) (
     pub naming_right : (th : Through) (c : ℕ) (object : Core) → IsNamed th c object → naming_10 env (of_name th c object) ≡ [] → naming_11 env (of_name th c object) ≡ [] → naming_14 env s (of_name th c object) ≡ [] →
         NameIsRight (member_core env (of_name th c object)) (member_denotes env (of_name th c object)) (member_form env (of_name th c object))
     naming_right th c object is none_10 none_11 none_14 =
-        let m = found_passes (is_found (of_name th c object)) (member_of env c x.name) (unless_empty (option_map_or (is_found (of_name th c object)) (member_of env c x.name) false) x.at none_10) in
+        let m = some_there (named_member env (of_name th c object)) (unless_empty (is_some (named_member env (of_name th c object))) x.at none_10) in
         subst (λ found. NameIsRight (option_map_or (λ m. option_map_or (λ place. view.Field object place) m.place (option_map_or literal_core (constant_at env m.at) core.Null)) found core.Null)
         (option_and_then (λ m. variable_denotes m.ty) found) (option_map_or (λ m. if is_some m.place then form.Variable else form.Constant x.at) found form.Other)) (sym m.1)
-        (found_right th c object m.0 is (agrees.field c x.name m.0 m.1)
+        (found_right th c object m.0 is (agrees.field c x.name m.0 (of_found (is_found th) (member_of env c x.name) m.0 m.1))
         (subst (λ found. only_if (is_behind_class th && option_map_or (λ m. is_some m.place) found false) x.at ≡ []) m.1 none_11)
         (subst (λ found. only_if (s.is_static && (needs_this th && option_map_or (λ m. is_some m.place) found false)) x.at ≡ []) m.1 none_14))
 

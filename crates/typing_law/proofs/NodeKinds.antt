@@ -39,7 +39,7 @@ use Rattle.java_exprs.specs.declared.typed.Form.TheVariants as form
 use Rattle.java_exprs.specs.declared.through.Through.TheVariants as through
 use Rattle.java_exprs.specs.Attr.{Attr, value_type, unless, only_if, is_nothing, nothing_11, value_faults, prefix_faults, values_faults}
 use Rattle.java_exprs.specs.Types as rules
-use Rattle.java_exprs.specs.Members.{Naming, naming, naming_behind, calling_behind}
+use Rattle.java_exprs.specs.Members.{Naming, naming, naming_behind, calling_behind, is_found, named_member}
 use Rattle.java_exprs.specs.Lookups.{superclass_of, member_of, maker_of, class_named, local_named, local_denotes, variable_denotes, type_named, elements_named, constant_at}
 use Rattle.java_exprs.specs.Denotes.{value, member_denotes, member_form, call_denotes, class_denotes, form_inside, library_field, library_method, text_method, length_name, equals_name, out_name, system_name, println_name, is_print}
 use Rattle.java_exprs.specs.Resolved.{cores, literal_core, first_core, member_core, call_core, library_core}
@@ -114,6 +114,15 @@ module _ (env : Environment) (p : Program) (agrees : Agrees env p) (s : Scope) (
   member_name x None is known none = record { means = class_means x (class_named env x.name) known; form = tt }
   member_name x (Some m) is known none = names.found_right env p agrees s cs inside x through.This s.class core.This m (refl, refl) (agrees.field s.class x.name m is) refl none
 
+  -- every field or constant is found by its name alone
+  named : (x : Ident) (m : Option FieldSymbol) → option_and_then (λ m. if is_found through.This m then Some m else None) m ≡ m
+  named x None = refl
+  named x (Some m) = ap (λ b. if b then Some m else None) (always (is_some m.place))
+    where
+      always : (b : Bool) → (b || true) ≡ true
+      always true = refl
+      always false = refl
+
   pub name_right : (x : Ident) → Holds p cs (attr_at env s (Expr-F.Name x))
   name_right x none =
       let b = breaks_none env s (Expr-F.Name x) none in
@@ -132,7 +141,12 @@ module _ (env : Environment) (p : Program) (agrees : Agrees env p) (s : Scope) (
         faults = (attr_at env s (Expr-F.Name x)).faults;
       })) (sym is) (record { means = right.0; form = right.1 })
       cases None is none_10 none_14 =
-          let right = member_name x (member_of env s.class x.name) refl (unless_empty (is_some (member_of env s.class x.name) || (is_some (class_named env x.name) || same_name x.name system_name)) x.at none_10) none_14 in
+          let same = named x (member_of env s.class x.name) in
+          let right = member_name x (member_of env s.class x.name) refl (unless_empty (is_some (member_of env s.class x.name) || (is_some (class_named env x.name) || same_name x.name system_name)) x.at none_10)
+              (subst (λ found. only_if (s.is_static && (true && option_map_or (λ m. is_some m.place) found false)) x.at ≡ []) same none_14) in
+          let of_field = λ (m : FieldSymbol). option_map_or (λ place. view.Field core.This place) m.place (option_map_or literal_core (constant_at env m.at) core.Null) in
+          let of_form = λ (m : FieldSymbol). if is_some m.place then form.Variable else form.Constant x.at in
+          let denoted = option_map_or (λ m. variable_denotes m.ty) (member_of env s.class x.name) (class_denotes env x.name) in
           subst (λ local. IsRight p cs (record {
             at = x.at;
             denotes = option_map_or (local_denotes s) local (option_map_or (λ m. variable_denotes m.ty) (member_of env s.class x.name) (class_denotes env x.name));
@@ -140,7 +154,10 @@ module _ (env : Environment) (p : Program) (agrees : Agrees env p) (s : Scope) (
             needs_minus = false;
             core = option_map_or core.Local local (option_map_or (member_core env) (if is_some local then None else Some (record { through = through.This; class = s.class; object = core.This; name = x })) core.Null);
             faults = (attr_at env s (Expr-F.Name x)).faults;
-          })) (sym is) (record { means = right.means; form = right.form })
+          })) (sym is) (record {
+            means = subst (λ found. Means p cs (option_map_or of_field found core.Null) denoted) (sym same) right.means;
+            form = subst (λ found. MeansForm p cs (option_map_or of_field found core.Null) denoted (option_map_or of_form found form.Other)) (sym same) right.form;
+          })
 
   -- ---- parentheses
 
@@ -209,33 +226,31 @@ module _ (env : Environment) (p : Program) (agrees : Agrees env p) (s : Scope) (
   either_is : (a b : Ty) → rules.is_either_way env.symbols a b ≡ (is_assignable p.classes a b || is_assignable p.classes b a)
   either_is a b = ap (λ x. x || rules.is_assignable env.symbols b a) (same_assignable env.symbols p.classes agrees.below a b) ∙ ap (λ x. is_assignable p.classes a b || x) (same_assignable env.symbols p.classes agrees.below b a)
 
+  object_only : (x : Bool) (at : ℕ) (more : List ℕ) → (if x then more else at ∷ []) ≡ [] → IsTrue x
+  object_only true at more none = refl
+  object_only false at more none = no_place at [] none
+
   -- what rule 15 says of a cast to a class or array type
-  cast_fits : (at : ℕ) (to : Ty) (e : Attr) (v : IsValue p cs e) → IsTrue (is_object to) → IsTrue (is_value p to) → cast_15 env at (Some to) e ≡ [] → IsTrue (has (is_castable p to) (type_of p cs e.core))
-  cast_fits at to e v object is_to none =
-      let asked = subst (λ b. (if b then at ∷ [] else option_map_or (λ from. unless (rules.is_either_way env.symbols from to) at) (value_type e.denotes) []) ≡ []) (object_no_string to object) none in
+  cast_fits : (at : ℕ) (to : Ty) (e : Attr) (v : IsValue p cs e) → IsTrue (is_value p to) → cast_15 env at (Some to) e ≡ [] → IsTrue (has (is_castable p to) (type_of p cs e.core))
+  cast_fits at to e v is_to none =
+      let object = object_only (is_object to) at (option_map_or (λ from. unless (rules.is_either_way env.symbols from to) at) (value_type e.denotes) []) none in
+      let asked = subst (λ b. (if b then option_map_or (λ from. unless (rules.is_either_way env.symbols from to) at) (value_type e.denotes) [] else at ∷ []) ≡ []) object none in
       let either = sym (either_is v.type to) ∙ unless_empty (rules.is_either_way env.symbols v.type to) at (subst (λ d. option_map_or (λ from. unless (rules.is_either_way env.symbols from to) at) (value_type d) [] ≡ []) v.said asked) in
       let fits = castable p to v.type v.has.actual object is_to either v.has.stands in
       subst (λ x. IsTrue (has (is_castable p to) x)) (sym (v.has.typed ∙ ap Some fits.0)) fits.1
 
-  pub cast_right : (at : ℕ) (t : TypeTree) (e : Attr) → (rule_15 env (Expr-F.Cast at t e) ≡ [] → (to : Ty) → type_named env t ≡ Some to → IsTrue (is_object to)) → Holds p cs e → Holds p cs (attr_at env s (Expr-F.Cast at t e))
-  cast_right at t e object holds none =
+  pub cast_right : (at : ℕ) (t : TypeTree) (e : Attr) → Holds p cs e → Holds p cs (attr_at env s (Expr-F.Cast at t e))
+  cast_right at t e holds none =
       let b = breaks_none env s (Expr-F.Cast at t e) none in
       let v = value_part p cs e holds b.below in
       let to = known_type env t b.rule_10 in
       let is_to = spelled_value env p agrees t to.0 to.1 in
-      let fits = cast_fits at to.0 e v (object b.rule_15 to.0 to.1) is_to (subst (λ found. cast_15 env at found e ≡ []) to.1 b.rule_15) in
+      let fits = cast_fits at to.0 e v is_to (subst (λ found. cast_15 env at found e ≡ []) to.1 b.rule_15) in
       record {
         means = subst (λ found. Means p cs (view.Cast (unwrap_or found ty.Int) e.core) (value found)) (sym to.1)
             (has_type p cs (view.Cast to.0 e.core) to.0 (type_of-Cast p cs to.0 e.core ∙ where_holds (has (is_castable p to.0) (type_of p cs e.core)) to.0 fits) (values_value p to.0 is_to));
         form = tt;
       }
-
-  object_only : (to : Ty) (at : ℕ) → is_string to ≡ false → (is_object to || is_string to) ≡ true → IsTrue (is_object to)
-  object_only to at other is = ⊎_elim (λ object. object) (λ string. absurd (false≢true (sym other ∙ string))) (or_cases (is_object to) (is_string to) is)
-
-  no_string : (x : Bool) (at : ℕ) (more : List ℕ) → (if x then at ∷ [] else more) ≡ [] → x ≡ false
-  no_string true at more none = no_place at [] none
-  no_string false at more none = refl
 
   pub instance_of_right : (e : Attr) (t : TypeTree) → Holds p cs e → Holds p cs (attr_at env s (Expr-F.InstanceOf e t))
   instance_of_right e t holds none =
@@ -243,10 +258,7 @@ module _ (env : Environment) (p : Program) (agrees : Agrees env p) (s : Scope) (
       let v = value_part p cs e holds b.below in
       let to = known_type env t b.rule_10 in
       let is_to = spelled_value env p agrees t to.0 to.1 in
-      let none_15 = subst (λ found. cast_15 env e.at found e ≡ []) to.1 b.rule_15 in
-      let none_11 = subst (λ found. option_map_or (λ to. unless (is_object to || is_string to) e.at) found [] ≡ []) to.1 b.rule_11 in
-      let object = object_only to.0 e.at (no_string (is_string to.0) e.at (option_map_or (λ from. unless (rules.is_either_way env.symbols from to.0) e.at) (value_type e.denotes) []) none_15) (unless_empty (is_object to.0 || is_string to.0) e.at none_11) in
-      let fits = cast_fits e.at to.0 e v object is_to none_15 in
+      let fits = cast_fits e.at to.0 e v is_to (subst (λ found. cast_15 env e.at found e ≡ []) to.1 b.rule_15) in
       record {
         means = subst (λ found. Means p cs (view.Is (unwrap_or found ty.Int) e.core) (Some (denotes.Value ty.Bool))) (sym to.1)
             (has_type_bool p cs (view.Is to.0 e.core) (type_of-Is p cs to.0 e.core ∙ where_holds (has (is_castable p to.0) (type_of p cs e.core)) ty.Bool fits));

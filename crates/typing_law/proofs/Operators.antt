@@ -33,7 +33,7 @@ use Rattle.java_exprs.specs.Attr.{Attr, value_type, unless, only_if, of_rule, va
 use Rattle.java_exprs.specs.Types as rules
 use Rattle.java_exprs.specs.Denotes.{value, unary_type, binary_type, bitwise_type, sum_type, is_text, choice_type}
 use Rattle.java_exprs.specs.Resolved.{un_op, strict_op, binary_core, joins}
-use Rattle.java_exprs.specs.Rules.{wants, of_types, unary_11, both_11, bitwise_11, equality_11, equality_16, sum_11, sum_21, binary_11, rule_16, rule_21, choice_11}
+use Rattle.java_exprs.specs.Rules.{wants, of_types, unary_11, both_11, bitwise_11, equality_11, equality_16, is_bitwise, fits_bitwise, sum_11, sum_21, binary_11, rule_16, rule_21, choice_11}
 use Rattle.java_exprs.specs.Checks.{attr_at}
 use Rattle.typing_law.specs.Means.{StandsFor, HasType, Means, IsRight, has_values}
 use Rattle.typing_law.specs.Agrees.{Agrees}
@@ -325,16 +325,26 @@ module _ (env : Environment) (p : Program) (agrees : Agrees env p) (s : Scope) (
     and_right_ none = let is = both is_boolean none in
         has_type_bool p core (view.And l.core r.core) (type_of-And p core l.core r.core ∙ ap (λ x. where_true (booleans x (type_of p core r.core)) ty.Bool) (boolean_part l v is.0) ∙ ap (λ x. where_true (booleans (Some ty.Bool) x) ty.Bool) (boolean_part r w is.1) ∙ where_holds (booleans (Some ty.Bool) (Some ty.Bool)) ty.Bool booleans_bool)
 
+    -- two ints or two booleans
+    pub bits_of : bitwise_11 l r ≡ [] → (IsTrue (is_int v.type) × IsTrue (is_int w.type)) ⊎ (IsTrue (is_boolean v.type) × IsTrue (is_boolean w.type))
+    bits_of none =
+        let parts = empty_parts (wants is_bitwise l) (wants (fits_bitwise (value_type l.denotes)) r) none in
+        cases (is_int v.type) (is_boolean v.type) refl refl (wanted p core is_bitwise l v parts.0) (subst (λ d. IsTrue (fits_bitwise (value_type d) w.type)) v.said (wanted p core (fits_bitwise (value_type l.denotes)) r w parts.1))
+      where
+        cases : (x y : Bool) → is_int v.type ≡ x → is_boolean v.type ≡ y → IsTrue (x || y) → IsTrue (if x then is_int w.type else (if y then is_boolean w.type else is_bitwise w.type)) → (IsTrue (is_int v.type) × IsTrue (is_int w.type)) ⊎ (IsTrue (is_boolean v.type) × IsTrue (is_boolean w.type))
+        cases true y int boolean either other = inl (int, other)
+        cases false true int boolean either other = inr (boolean, other)
+        cases false false int boolean either other = absurd (false≢true either)
+
     -- `&`, `|` and `^`
     bits_right : (op : BinOp) → typing.binary_type p op (Some ty.Int) (Some ty.Int) ≡ Some ty.Int → typing.binary_type p op (Some ty.Bool) (Some ty.Bool) ≡ Some ty.Bool → bitwise_11 l r ≡ [] →
         Means p core (view.Binary op l.core r.core) (value (bitwise_type (value_type l.denotes)))
     bits_right op ints bools none =
         subst (λ d. Means p core (view.Binary op l.core r.core) (value (bitwise_type (value_type d)))) (sym v.said)
-        (cases (is_boolean v.type) refl (subst (λ d. option_map_or (λ t. if is_boolean t then wants is_boolean r else both_11 is_int l r) (value_type d) [] ≡ []) v.said none))
-      where
-        cases : (x : Bool) → is_boolean v.type ≡ x → (if x then wants is_boolean r else both_11 is_int l r) ≡ [] → HasType p core (view.Binary op l.core r.core) (if x then ty.Bool else ty.Int)
-        cases true is none = has_type_bool p core (view.Binary op l.core r.core) (typed op ty.Bool ty.Bool ty.Bool (boolean_part l v is) (boolean_part r w (wanted p core is_boolean r w none)) bools)
-        cases false is none = ints_right op ints none
+        (⊎_elim
+        (λ is. subst (λ b. HasType p core (view.Binary op l.core r.core) (if b then ty.Bool else ty.Int)) (sym (ap is_boolean (facts.int_type v.type is.0) ∙ facts.is_boolean-Int)) (has_type_int p core (view.Binary op l.core r.core) (typed op ty.Int ty.Int ty.Int (int_part l v is.0) (int_part r w is.1) ints)))
+        (λ is. subst (λ b. HasType p core (view.Binary op l.core r.core) (if b then ty.Bool else ty.Int)) (sym is.0) (has_type_bool p core (view.Binary op l.core r.core) (typed op ty.Bool ty.Bool ty.Bool (boolean_part l v is.0) (boolean_part r w is.1) bools)))
+        (bits_of none))
 
     either_is : (a b : Ty) → rules.is_either_way env.symbols a b ≡ (is_assignable p.classes a b || is_assignable p.classes b a)
     either_is a b = ap (λ x. x || rules.is_assignable env.symbols b a) (same_assignable env.symbols p.classes agrees.below a b) ∙ ap (λ x. is_assignable p.classes a b || x) (same_assignable env.symbols p.classes agrees.below b a)
@@ -425,19 +435,21 @@ module _ (env : Environment) (p : Program) (agrees : Agrees env p) (s : Scope) (
       let v = value_part p core a holds_a branches.0 in
       let w = value_part p core b holds_b branches.1 in
       let test = boolean_part c u (wanted p core is_boolean c u asked_11.0) in
-      let either = sym (either_is a b v w v.type w.type) ∙ unless_empty (rules.is_either_way env.symbols v.type w.type) b.at (asked a b v w (λ t u. unless (rules.is_either_way env.symbols t u) b.at) asked_11.1) in
+      let said_either = unless_empty (rules.is_either_way env.symbols v.type w.type) b.at (asked a b v w (λ t u. unless (rules.is_either_way env.symbols t u) b.at) asked_11.1) in
+      let either = sym (either_is a b v w v.type w.type) ∙ said_either in
       let chosen = choice p v.has.actual w.has.actual v.type w.type v.has.stands w.has.stands either in
       let same = same_assignable env.symbols p.classes agrees.below v.type w.type in
       record {
         means =
             subst (λ d. Means p core (view.Cond c.core a.core b.core) (value (choice_type env (value_type d) (value_type b.denotes)))) (sym v.said)
             (subst (λ d. Means p core (view.Cond c.core a.core b.core) (value (choice_type env (Some v.type) (value_type d)))) (sym w.said)
+            (subst (λ x. Means p core (view.Cond c.core a.core b.core) (value (if x then Some (rules.wider env.symbols v.type w.type) else None))) (sym said_either)
             (subst (λ x. HasType p core (view.Cond c.core a.core b.core) (if x then w.type else v.type)) (sym same) (record {
               actual = chosen.0;
               typed = type_of-Cond p core c.core a.core b.core ∙ ap (λ x. if has is_boolean x then typing.wider p (type_of p core a.core) (type_of p core b.core) else None) test ∙ ap (λ x. if x then typing.wider p (type_of p core a.core) (type_of p core b.core) else None) facts.is_boolean-Bool
                   ∙ ap (λ x. typing.wider p x (type_of p core b.core)) v.has.typed ∙ ap (typing.wider p (Some v.has.actual)) w.has.typed ∙ chosen.1;
               stands = chosen.2;
               values = chosen_values p (is_assignable p.classes v.type w.type) v.type w.type v.has.values w.has.values;
-            })));
+            }))));
         form = tt;
       }

@@ -1,6 +1,6 @@
 -- What an assignment writes to, and the operators of compound assignments (JLS 15.26).
 use Rattle.std.proofs.Common.{◌≡◌, ◌∙◌, ⊎_elim, ℕ, Bool, true, false, ◌||◌, ◌&&◌, IsTrue, List, [], ◌∷◌, ◌++◌, length, Option, Some, None, refl, subst, sym, ap, if◌then◌else◌}
-use Rattle.std.specs.Option.{option_map_or}
+use Rattle.std.specs.Prelude.{is_none}
 use Rattle.std.proofs.lemmas.Bool.{false≢true, or_cases, or_left, or_right, and_from}
 use denote.Hole.Carrier.{out, shown, hidden}
 use Rattle.core_tree.specs.declared.ty.Ty.{Ty, out-Ty}
@@ -22,7 +22,7 @@ use Rattle.java_exprs.specs.declared.typed.Denotation.TheVariants as denotes
 use Rattle.java_exprs.specs.declared.typed.Form.{Form}
 use Rattle.java_exprs.specs.declared.typed.Form.TheVariants as form
 use Rattle.java_exprs.specs.Attr.{Attr, value_type, unless, only_if}
-use Rattle.java_exprs.specs.Rules.{wants, wants_type, both_11, bitwise_11, of_types, sum_21}
+use Rattle.java_exprs.specs.Rules.{both_11, bitwise_11, sum_21}
 use Rattle.java_types.specs.Statements.{target_node, target_of, is_target, target_18, constant_20, sum_11, sum_op}
 use Rattle.typing_law.specs.Means.{IsPlace, IsRight, MeansForm, is_place, has_values}
 use Rattle.typing_law.specs.Agrees.{Agrees}
@@ -31,7 +31,7 @@ use Rattle.typing_law.proofs.Values.{value_not_void, values_text_or_object}
 use Rattle.typing_law.proofs.NoFaults.{unless_empty, only_if_empty, no_place}
 use Rattle.typing_law.proofs.Standing.{has_texts}
 use Rattle.typing_law.proofs.Parts.{IsValue, wanted}
-use Rattle.typing_law.proofs.Operators.{both, asked, no_or, int_part, boolean_part}
+use Rattle.typing_law.proofs.Operators.{both, asked, bits_of, no_or, int_part, boolean_part}
 
 ints_int : ints (Some ty.Int) (Some ty.Int) ≡ true
 unfolding out-Ty out shown-the_row-Ty-0 shown hidden
@@ -60,14 +60,14 @@ module _ (p : Program) (cs : CoreScope) where
   pub target_typed : (a : Attr) → IsPlace p cs a.core a.denotes → (t : Ty) → a.denotes ≡ Some (denotes.Value t) → target_type p cs (target_of a) ≡ Some t
   target_typed a place t said = target_is (out-Expr a.core) place.place ∙ sym (opened a.core) ∙ place.typed ∙ ap value_type (sym place.said ∙ said)
 
-  of_form : (e : Core) (d : Option Denotation) (f : Form) (at : ℕ) → MeansForm p cs e d f → unless (is_target f) at ≡ [] → constant_20 f ≡ [] → IsPlace p cs e d
+  of_form : (e : Core) (d : Option Denotation) (f : Form) (at : ℕ) → MeansForm p cs e d f → unless (false || is_target f) at ≡ [] → constant_20 f ≡ [] → IsPlace p cs e d
   of_form e d form.Variable at right none_18 none_20 = right
   of_form e d (form.Constant k) at right none_18 none_20 = no_place k [] none_20
   of_form e d form.Call at right none_18 none_20 = no_place at [] none_18
   of_form e d form.Other at right none_18 none_20 = no_place at [] none_18
 
-  pub is_variable : (a : Attr) → IsRight p cs a → target_18 a ≡ [] → constant_20 a.form ≡ [] → IsPlace p cs a.core a.denotes
-  is_variable a right none_18 none_20 = of_form a.core a.denotes a.form a.at right.form none_18 none_20
+  pub is_variable : (a : Attr) (v : IsValue p cs a) → IsRight p cs a → target_18 a ≡ [] → constant_20 a.form ≡ [] → IsPlace p cs a.core a.denotes
+  is_variable a v right none_18 none_20 = of_form a.core a.denotes a.form a.at right.form (subst (λ d. unless (is_none d || is_target a.form) a.at ≡ []) v.said none_18) none_20
 
 -- ---- compound assignments
 
@@ -83,12 +83,10 @@ module _ (env : Environment) (p : Program) (agrees : Agrees env p) (s : Scope) (
   ints_update op table none = table (Some v.type) (type_of p cs e.core) ∙ ints_of none
 
   pub bits_update : (op : UpOp) → ((x y : PartType) → is_update op x y ≡ (ints x y || booleans x y)) → bitwise_11 a e ≡ [] → Updates op
-  bits_update op table none = table (Some v.type) (type_of p cs e.core) ∙ cases (is_boolean v.type) refl (subst (λ d. option_map_or (λ t. if is_boolean t then wants is_boolean e else both_11 is_int a e) (value_type d) [] ≡ []) v.said none)
-    where
-      cases : (x : Bool) → is_boolean v.type ≡ x → (if x then wants is_boolean e else both_11 is_int a e) ≡ [] → IsTrue (ints (Some v.type) (type_of p cs e.core) || booleans (Some v.type) (type_of p cs e.core))
-      cases true is none = or_right (ints (Some v.type) (type_of p cs e.core)) (booleans (Some v.type) (type_of p cs e.core))
-          (and_from (is_boolean v.type) (has is_boolean (type_of p cs e.core)) is (subst (λ x. IsTrue (has is_boolean x)) (sym (boolean_part env p agrees s cs e w (wanted p cs is_boolean e w none))) facts.is_boolean-Bool))
-      cases false is none = or_left (ints (Some v.type) (type_of p cs e.core)) (booleans (Some v.type) (type_of p cs e.core)) (ints_of none)
+  bits_update op table none = table (Some v.type) (type_of p cs e.core) ∙ ⊎_elim
+      (λ is. or_left (ints (Some v.type) (type_of p cs e.core)) (booleans (Some v.type) (type_of p cs e.core)) (and_from (is_int v.type) (has is_int (type_of p cs e.core)) is.0 (subst (λ x. IsTrue (has is_int x)) (sym (int_part env p agrees s cs e w is.1)) facts.is_int-Int)))
+      (λ is. or_right (ints (Some v.type) (type_of p cs e.core)) (booleans (Some v.type) (type_of p cs e.core)) (and_from (is_boolean v.type) (has is_boolean (type_of p cs e.core)) is.0 (subst (λ x. IsTrue (has is_boolean x)) (sym (boolean_part env p agrees s cs e w is.1)) facts.is_boolean-Bool)))
+      (bits_of env p agrees s cs a e v w none)
 
   no_string : (x y : Bool) → (x && y) ≡ false → (false || (x && y)) ≡ false
   no_string x y none = none

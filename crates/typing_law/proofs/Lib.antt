@@ -16,3 +16,4 @@ mod Exprs
 mod Scopes
 mod Statements
 mod Targets
+mod BodyNodes

@@ -56,17 +56,17 @@ use Rattle.typing_law.proofs.Scopes.{goes_nowhere, goes_on, goes_left, goes_decl
 use Rattle.typing_law.proofs.Statements.{StmtIsRight, StmtsAreRight, BranchIsRight, CatchesAreRight, PartHolds, PartsHold, CatchesHold, BranchHolds, sequence_right, clauses_right, inner_right, looped_right, branch_right, is_typed_catch, catch_numbers}
 
 -- no rule is broken at a statement or below it
-record BreaksNone (env : Environment) (n : StmtNode) (s : Scope) : Type 0 where
-  below : stmt_broken_below env n s ≡ []
-  rule_10 : stmt_10 env n s ≡ []
-  rule_11 : stmt_11 env n s ≡ []
-  rule_14 : stmt_14 n ≡ []
-  rule_17 : stmt_17 n s ≡ []
-  rule_18 : stmt_18 env n s ≡ []
-  rule_20 : stmt_20 env n s ≡ []
-  rule_21 : stmt_21 env n s ≡ []
+pub record BreaksNone (env : Environment) (n : StmtNode) (s : Scope) : Type 0 where
+  pub below : stmt_broken_below env n s ≡ []
+  pub rule_10 : stmt_10 env n s ≡ []
+  pub rule_11 : stmt_11 env n s ≡ []
+  pub rule_14 : stmt_14 n ≡ []
+  pub rule_17 : stmt_17 n s ≡ []
+  pub rule_18 : stmt_18 env n s ≡ []
+  pub rule_20 : stmt_20 env n s ≡ []
+  pub rule_21 : stmt_21 env n s ≡ []
 
-breaks_none : (env : Environment) (n : StmtNode) (s : Scope) → (effect_at env n s).faults ≡ [] → BreaksNone env n s
+pub breaks_none : (env : Environment) (n : StmtNode) (s : Scope) → (effect_at env n s).faults ≡ [] → BreaksNone env n s
 breaks_none env n s none =
     let all = empty_parts (stmt_broken_below env n s) (stmt_broken_here env n s) none in
     let r21 = of_rule 21 (stmt_21 env n s) [] in
@@ -84,23 +84,23 @@ breaks_none env n s none =
     record { below = all.0; rule_10 = e10.0; rule_11 = e11.0; rule_14 = e14.0; rule_17 = e17.0; rule_18 = e18.0; rule_20 = e20.0; rule_21 = (empty_rule 21 (stmt_21 env n s) [] e20.1).0 }
 
 module _ (env : Environment) (p : Program) (agrees : Agrees env p) where
-  abbrev NodeHolds : StmtNode → Type 0
+  abbrev pub NodeHolds : StmtNode → Type 0
   NodeHolds n = (s : Scope) → IsKnown env p s → (effect_at env n s).faults ≡ [] → StmtIsRight env p s.in_loop s (effect_at env n s).after (effect_at env n s).step
 
   -- ---- expressions in a scope
 
   module _ (s : Scope) (cs : CoreScope) (known : IsKnown env p s) (fits_body : FitsBody s s.slots cs) where
-    holds : (e : Expr) → Holds p cs (attr env s e)
+    pub holds : (e : Expr) → Holds p cs (attr env s e)
     holds e = expr_right env p agrees s cs (scope_agrees env p s cs known fits_body) e
 
-    value : (e : Expr) → value_faults (attr env s e) ≡ [] → IsValue p cs (attr env s e)
+    pub value : (e : Expr) → value_faults (attr env s e) ≡ [] → IsValue p cs (attr env s e)
     value e none = value_part p cs (attr env s e) (holds e) none
 
-    condition : (e : Expr) → value_faults (attr env s e) ≡ [] → condition_11 env s e ≡ [] → IsTrue (is_condition p cs (attr env s e).core)
+    pub condition : (e : Expr) → value_faults (attr env s e) ≡ [] → condition_11 env s e ≡ [] → IsTrue (is_condition p cs (attr env s e).core)
     condition e none none_11 = let v = value e none in has_boolean p cs (attr env s e).core v.type v.has (wanted p cs is_boolean (attr env s e) v none_11)
 
     -- a value that may be left out
-    optional_fits : (want : Ty) (e : Option Expr) → is_void want ≡ false → optional_faults env s e ≡ [] → option_map_or (λ e. wants_type env want (attr env s e)) e [] ≡ [] → IsTrue (if_there p cs (fits p want) (optional_core env s e))
+    pub optional_fits : (want : Ty) (e : Option Expr) → is_void want ≡ false → optional_faults env s e ≡ [] → option_map_or (λ e. wants_type env want (attr env s e)) e [] ≡ [] → IsTrue (if_there p cs (fits p want) (optional_core env s e))
     optional_fits want None no_void none none_11 = refl
     optional_fits want (Some e) no_void none none_11 = fits_wanted env p agrees cs want (attr env s e) (value e none) no_void none_11
 

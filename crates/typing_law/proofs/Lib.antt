@@ -17,3 +17,6 @@ mod Scopes
 mod Statements
 mod Targets
 mod BodyNodes
+mod SameTypes
+mod BodyParts
+mod Stmts

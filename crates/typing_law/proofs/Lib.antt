@@ -20,3 +20,4 @@ mod BodyNodes
 mod SameTypes
 mod BodyParts
 mod Stmts
+mod Members

@@ -9,7 +9,7 @@ use Rattle.core_tree.specs.declared.program.Program.{Program}
 use Rattle.core_tree.specs.BuiltIn.{is_built_in}
 use Rattle.core_tree.specs.Types.{is_int, is_boolean, is_string, is_void, is_subclass}
 use Rattle.core_tree.specs.Typing.{Scope as CoreScope, PartType, all_fit, call_type, chosen_type, field_type, is_int_number, is_of_superclass, is_throwable}
-use Rattle.core_tree.specs.WellTyped.{is_value}
+use Rattle.core_tree.specs.WellTyped.{is_value, is_of_file, superclass}
 use Rattle.class_table.specs.Names.{Name}
 use Rattle.java_names.specs.declared.scope.Scope.{Scope}
 use Rattle.java_names.specs.declared.symbol.FieldSymbol.{FieldSymbol}
@@ -70,6 +70,7 @@ pub record AgreesOnMaker (p : Program) (c : ℕ) (arity : ℕ) (m : MakerSymbol)
 -- what is looked up in an environment is so in the program
 pub record Agrees (env : Environment) (p : Program) : Type 0 where
   pub below : (c d : ℕ) → is_below env.symbols c d ≡ is_subclass p.classes c d
+  pub superclass : (c : ℕ) → superclass_of env c ≡ superclass p c
   pub class : (x : Name) (c : ℕ) → class_named env x ≡ Some c → IsTrue (nat_lt c (length p.classes))
   pub field : (c : ℕ) (x : Name) (m : FieldSymbol) → member_of env c x ≡ Some m → AgreesOnField env p c m
   pub method : (c : ℕ) (x : Name) (arity : ℕ) (m : MethodSymbol) → method_of env c x arity ≡ Some m → AgreesOnMethod p c arity m
@@ -89,3 +90,9 @@ pub record AgreesOnScope (env : Environment) (p : Program) (s : Scope) (core : C
   pub superclass : (b : ℕ) × (superclass_of env s.class ≡ Some b)
   pub this : s.is_static ≡ false → core.this ≡ Some s.class
   pub local : (x : Name) (n : ℕ) → local_named s x ≡ Some n → AgreesOnLocal p s core n
+
+-- a class of the file
+pub record IsOfFile (env : Environment) (p : Program) (c : ℕ) : Type 0 where
+  pub of_file : IsTrue (is_of_file p c)
+  pub within : IsTrue (nat_lt c (length p.classes))
+  pub superclass : (b : ℕ) × (superclass_of env c ≡ Some b)

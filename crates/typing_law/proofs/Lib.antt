@@ -21,3 +21,4 @@ mod SameTypes
 mod BodyParts
 mod Stmts
 mod Members
+mod Tables

@@ -1,3 +1,4 @@
 pub mod Means
 pub mod Agrees
 pub mod Scopes
+pub mod Starts

@@ -22,3 +22,4 @@ mod BodyParts
 mod Stmts
 mod Members
 mod Tables
+mod Numbered

@@ -55,7 +55,7 @@ length_core env tree n [] = refl
 length_core env tree n (row ∷ rows) = ap suc (length_core env tree (suc n) rows)
 
 -- the numbers of methods and constructors before a class
-pub numbers_at : ℕ → Numbers → List ClassRow → ℕ → Numbers
+unfoldable pub numbers_at : ℕ → Numbers → List ClassRow → ℕ → Numbers
 numbers_at n numbers rows zero = numbers
 numbers_at n numbers [] (suc k) = numbers
 numbers_at n numbers (row ∷ rows) (suc k) = numbers_at (n + 1) (numbers_after n numbers row) rows k

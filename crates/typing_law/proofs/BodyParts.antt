@@ -99,7 +99,7 @@ module _ (env : Environment) (p : Program) (agrees : Agrees env p) where
   local_right t s known none =
       let b = breaks_none env (Stmt-F.Local t) s none in
       let to = known_type env t.ty (empty_parts (unknown_type env t.ty) (again_10 s t.name) b.rule_10).0 in
-      let value : IsTrue (is_value p (local_type env t)) = subst (λ u. IsTrue (is_value p (unwrap_or u ty.Void))) (sym to.1) (spelled_value env p agrees t.ty to.0 to.1) in
+      let value : IsTrue (is_value p (local_type env t)) = subst (λ u. IsTrue (is_value p (unwrap_or u ty.Void))) (sym to.1) (spelled_value env p agrees.class t.ty to.0 to.1) in
       local_declared s t known value b.below b.rule_11
 
   -- ---- blocks

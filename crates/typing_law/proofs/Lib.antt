@@ -23,3 +23,5 @@ mod Stmts
 mod Members
 mod Tables
 mod Numbered
+mod FileClasses
+mod FileMakers

@@ -51,7 +51,7 @@ use Rattle.typing_law.proofs.Values.{value_not_void}
 use Rattle.typing_law.proofs.Standing.{and_l}
 use Rattle.typing_law.proofs.Parts.{Holds, value_part}
 use Rattle.typing_law.proofs.Arguments.{AllHold, arguments_fit, fits_wanted}
-use Rattle.typing_law.proofs.Spelled.{known_type, spelled_value}
+use Rattle.typing_law.proofs.Spelled.{declared_value}
 use Rattle.typing_law.proofs.Exprs.{expr_right}
 use Rattle.typing_law.proofs.Scopes.{goes_nowhere, goes_on, goes_declared, fits_before, fits_after, scope_agrees}
 use Rattle.typing_law.proofs.Statements.{StmtsAreRight, sequence_right}
@@ -68,9 +68,6 @@ flat_numbers [] = refl
 flat_numbers (x ∷ xs) = ap (λ ns. declared_numbers x ++ ns) (flat_numbers xs)
 
 module _ (env : Environment) (p : Program) (agrees : Agrees env p) where
-  declared_value : (t : TypeTree) → unknown_type env t ≡ [] → IsTrue (is_value p (declared_type env.symbols.names t))
-  declared_value t none = let to = known_type env t none in subst (λ u. IsTrue (is_value p (unwrap_or u ty.Void))) (sym to.1) (spelled_value env p agrees t to.0 to.1)
-
   -- ---- parameters
 
   record ParamsAreRight (s : Scope) (params : List ParamTree) : Type 0 where
@@ -83,7 +80,7 @@ module _ (env : Environment) (p : Program) (agrees : Agrees env p) where
   params_right (q ∷ qs) s known none =
       let parts = empty_parts (unknown_type env q.ty ++ again_10 s q.name) (params_10 env qs (with_param env q s)) none in
       let here = empty_parts (unknown_type env q.ty) (again_10 s q.name) parts.0 in
-      let first = goes_declared env p s q.name.name (declared_type env.symbols.names q.ty) known (declared_value q.ty here.0) in
+      let first = goes_declared env p s q.name.name (declared_type env.symbols.names q.ty) known (declared_value env p agrees.class q.ty here.0) in
       let rest = params_right qs (with_param env q s) first.known parts.1 in
       record { goes = goes_on env p s (with_param env q s) (with_params env qs (with_param env q s)) first rest.goes; more_is = ap (λ ts. declared_type env.symbols.names q.ty ∷ ts) rest.more_is }
 
@@ -146,7 +143,7 @@ module _ (env : Environment) (p : Program) (agrees : Agrees env p) where
 
   answer_value : (t : Option TypeTree) → answer_10 env t ≡ [] → IsTrue (is_value p (answer_type env.symbols.names t) || is_void (answer_type env.symbols.names t))
   answer_value None none = or_right (is_value p ty.Void) (is_void ty.Void) facts.is_void-Void
-  answer_value (Some t) none = or_left (is_value p (declared_type env.symbols.names t)) (is_void (declared_type env.symbols.names t)) (declared_value t none)
+  answer_value (Some t) none = or_left (is_value p (declared_type env.symbols.names t)) (is_void (declared_type env.symbols.names t)) (declared_value env p agrees.class t none)
 
   pub method_right : (c : ℕ) (m : MethodTree) → IsOfFile env p c → answer_10 env m.answer ≡ [] → params_10 env m.params (method_scope env c m) ≡ [] → (method_effects env c m).faults ≡ [] → IsTrue (is_method p (core_method env c m))
   method_right c m of_file none_answer none_params none =
@@ -261,4 +258,4 @@ module _ (env : Environment) (p : Program) (agrees : Agrees env p) where
           let parts = empty_parts (value_faults a) (of_rule 11 (wants_type env want a) []) none in
           let fits_body : FitsBody (maker_scope c) [] (initialiser_scope c) = record { this = λ instance. refl; answer = refl; slots = λ n t is. absurd (none-some t is) } in
           let right = expr_right env p agrees (maker_scope c) (initialiser_scope c) (scope_agrees env p (maker_scope c) (initialiser_scope c) known fits_body) e in
-          fits_wanted env p agrees (initialiser_scope c) want a (value_part p (initialiser_scope c) a right parts.0) (value_not_void (length p.classes) want (declared_value f.ty none_10)) (empty_rule 11 (wants_type env want a) [] parts.1).0
+          fits_wanted env p agrees (initialiser_scope c) want a (value_part p (initialiser_scope c) a right parts.0) (value_not_void (length p.classes) want (declared_value env p agrees.class f.ty none_10)) (empty_rule 11 (wants_type env want a) [] parts.1).0

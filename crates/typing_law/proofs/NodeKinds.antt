@@ -211,7 +211,7 @@ module _ (env : Environment) (p : Program) (agrees : Agrees env p) (s : Scope) (
       let known = known_base env base b.rule_10 in
       let elements = arrays dimensions known.0 in
       let is : elements_named env base dimensions ≡ Some elements = ap (option_map (arrays dimensions)) known.1 in
-      let values = elements_value env p agrees base dimensions elements is in
+      let values = elements_value env p agrees.class base dimensions elements is in
       let typed : type_of p cs (view.NewArray elements e.core) ≡ Some (type.Array elements) =
           type_of-NewArray p cs elements e.core ∙ where_holds (has is_int (type_of p cs e.core) && is_value_type (length p.classes) elements) (type.Array elements)
           (and_from (has is_int (type_of p cs e.core)) (is_value_type (length p.classes) elements) (has_exact p cs e.core v.type v.has is_int facts.is_int-Text (wanted p cs is_int e v b.rule_11)) values) in
@@ -244,7 +244,7 @@ module _ (env : Environment) (p : Program) (agrees : Agrees env p) (s : Scope) (
       let b = breaks_none env s (Expr-F.Cast at t e) none in
       let v = value_part p cs e holds b.below in
       let to = known_type env t b.rule_10 in
-      let is_to = spelled_value env p agrees t to.0 to.1 in
+      let is_to = spelled_value env p agrees.class t to.0 to.1 in
       let fits = cast_fits at to.0 e v is_to (subst (λ found. cast_15 env at found e ≡ []) to.1 b.rule_15) in
       record {
         means = subst (λ found. Means p cs (view.Cast (unwrap_or found ty.Int) e.core) (value found)) (sym to.1)
@@ -257,7 +257,7 @@ module _ (env : Environment) (p : Program) (agrees : Agrees env p) (s : Scope) (
       let b = breaks_none env s (Expr-F.InstanceOf e t) none in
       let v = value_part p cs e holds b.below in
       let to = known_type env t b.rule_10 in
-      let is_to = spelled_value env p agrees t to.0 to.1 in
+      let is_to = spelled_value env p agrees.class t to.0 to.1 in
       let fits = cast_fits e.at to.0 e v is_to (subst (λ found. cast_15 env e.at found e ≡ []) to.1 b.rule_15) in
       record {
         means = subst (λ found. Means p cs (view.Is (unwrap_or found ty.Int) e.core) (Some (denotes.Value ty.Bool))) (sym to.1)

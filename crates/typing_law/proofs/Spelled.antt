@@ -1,6 +1,6 @@
 -- The types that a file spells are types that variables have.
 use Rattle.std.proofs.Common.{◌≡◌, ◌∙◌, ℕ, zero, suc, Bool, true, false, IsTrue, List, [], ◌∷◌, length, Option, Some, None, option_map, refl, subst, sym, ap, if◌then◌else◌}
-use Rattle.std.specs.Prelude.{is_none}
+use Rattle.std.specs.Prelude.{is_none, nat_lt, unwrap_or}
 use Rattle.std.proofs.lemmas.Option.{none-some, same_Some}
 use Rattle.core_tree.specs.declared.ty.Ty.{Ty}
 use Rattle.core_tree.specs.declared.ty.Ty.TheVariants as ty
@@ -14,7 +14,6 @@ use Rattle.class_table.specs.Names.{Name, number_of}
 use Rattle.java_names.specs.Types as types
 use Rattle.java_exprs.specs.declared.environment.Environment.{Environment}
 use Rattle.java_exprs.specs.Lookups.{class_named, type_named, elements_named, unknown_type, unknown_base}
-use Rattle.typing_law.specs.Agrees.{Agrees}
 use Rattle.typing_law.proofs.NoFaults.{no_place}
 use Rattle.typing_law.proofs.Values.{class_value}
 
@@ -31,14 +30,14 @@ known_base env (base.Class c) none = some_there (types.named_type env.symbols.na
 pub known_type : (env : Environment) (t : TypeTree) → unknown_type env t ≡ [] → (to : Ty) × (type_named env t ≡ Some to)
 known_type env t none = let b = known_base env t.base none in (types.arrays t.dimensions b.0, ap (option_map (types.arrays t.dimensions)) b.1)
 
-module _ (env : Environment) (p : Program) (agrees : Agrees env p) where
+module _ (env : Environment) (p : Program) (classes : (x : Name) (c : ℕ) → class_named env x ≡ Some c → IsTrue (nat_lt c (length p.classes))) where
   named_value : (x : Name) (t : Ty) → types.named_type env.symbols.names x ≡ Some t → IsTrue (is_value p t)
   named_value x t is = cases (types.is_string x) (class_named env x) refl is
     where
       cases : (b : Bool) (found : Option ℕ) → class_named env x ≡ found → (if b then Some ty.Text else option_map ty.Class found) ≡ Some t → IsTrue (is_value p t)
       cases true found of_class is = subst (λ u. IsTrue (is_value p u)) (same_Some _ _ is) (is_value_type-Text (length p.classes))
       cases false None of_class is = absurd (none-some _ is)
-      cases false (Some c) of_class is = subst (λ u. IsTrue (is_value p u)) (same_Some _ _ is) (class_value (length p.classes) c (agrees.class x c of_class))
+      cases false (Some c) of_class is = subst (λ u. IsTrue (is_value p u)) (same_Some _ _ is) (class_value (length p.classes) c (classes x c of_class))
 
   base_value : (b : BaseType) (t : Ty) → types.base_type env.symbols.names b ≡ Some t → IsTrue (is_value p t)
   base_value base.Int t is = subst (λ u. IsTrue (is_value p u)) (same_Some _ _ is) (is_value_type-Int (length p.classes))
@@ -58,3 +57,7 @@ module _ (env : Environment) (p : Program) (agrees : Agrees env p) where
 
   pub spelled_value : (t : TypeTree) (to : Ty) → type_named env t ≡ Some to → IsTrue (is_value p to)
   spelled_value t to is = elements_value t.base t.dimensions to is
+
+  -- the type of a declaration without a fault
+  pub declared_value : (t : TypeTree) → unknown_type env t ≡ [] → IsTrue (is_value p (types.declared_type env.symbols.names t))
+  declared_value t none = let to = known_type env t none in subst (λ u. IsTrue (is_value p (unwrap_or u ty.Void))) (sym to.1) (spelled_value t to.0 to.1)

@@ -38,7 +38,6 @@ use Rattle.java_names.specs.Lookups.{class_at, maker_in}
 use Rattle.java_names.specs.Numbers.{first_numbers, written_in, written_from}
 use Rattle.java_names.specs.Selectors.{selectors_of}
 use Rattle.java_names.specs.Symbols.{class_symbol, makers_of, written_makers, made_makers, names_of, symbols_of}
-use Rattle.java_names.specs.Symbols as symbols
 use Rattle.java_exprs.specs.declared.literal.Literal.{Literal}
 use Rattle.java_exprs.specs.Lookups.{maker_of}
 use Rattle.java_types.specs.Bodies.{made_maker}
@@ -50,7 +49,7 @@ use Rattle.typing_law.proofs.Numbered.{stands_at, get_behind, not_built_in}
 use Rattle.typing_law.proofs.FileClasses.{HasTree, tree_at, of_class, maker_values}
 
 -- the number of the n-th of some members, the first of which has a number
-pub shifted : Option ℕ → ℕ → Option ℕ
+unfoldable pub shifted : Option ℕ → ℕ → Option ℕ
 shifted number n = option_map (λ k. k + n) number
 
 pub maker_symbol_at : (names : List Name) (owner : ℕ) (number : Option ℕ) (rows : List MakerRow) (n : ℕ) → slice_get (maker_symbols names owner number rows) n ≡ option_map (maker_symbol names owner (shifted number n)) (slice_get rows n)
@@ -97,12 +96,12 @@ arity_of f rows arity n y is is_y =
     let there : slice_get (map f rows) n ≡ Some (f y) = slice_get-map f rows n ∙ ap (option_map f) is_y in
     sym (eqb-true arity (f y) (ap (nat_eq arity) (sym (get_or_from_slice_get (map f rows) n (f y) 0 there)) ∙ found))
 
-found_by : {X Y : Type 0} (f : X → Y) (found : Option X) (y : Y) → option_map f found ≡ Some y → (x : X) × (found ≡ Some x) × (y ≡ f x)
+pub found_by : {X Y : Type 0} (f : X → Y) (found : Option X) (y : Y) → option_map f found ≡ Some y → (x : X) × (found ≡ Some x) × (y ≡ f x)
 found_by f None y is = absurd (none-some y is)
 found_by f (Some x) y is = (x, refl, sym (same_Some _ _ is))
 
 -- a constructor that is written
-written_found : (names : List Name) (c : ℕ) (number : Option ℕ) (ms : List MakerRow) (arity : ℕ) (m : MakerSymbol) → option_and_then (λ n. slice_get (maker_symbols names c number ms) n) (position (nat_eq arity) (maker_arities ms)) ≡ Some m →
+pub written_found : (names : List Name) (c : ℕ) (number : Option ℕ) (ms : List MakerRow) (arity : ℕ) (m : MakerSymbol) → option_and_then (λ n. slice_get (maker_symbols names c number ms) n) (position (nat_eq arity) (maker_arities ms)) ≡ Some m →
     (n : ℕ) × (y : MakerRow) × (slice_get ms n ≡ Some y) × (m ≡ maker_symbol names c (shifted number n) y) × (length y.params ≡ arity)
 written_found names c number ms arity m is =
     option_and_then_some (λ n. slice_get (maker_symbols names c number ms) n) (position (nat_eq arity) (maker_arities ms)) m is (λ n is_n is_m.
@@ -114,7 +113,7 @@ module _ (tree : FileTree) (constants : List (ℕ × Option Literal)) (none : of
   table = table_of tree
 
   -- a constructor that class c of the file writes
-  written_agrees : (c : ℕ) (row : ClassRow) (arity : ℕ) (m : MakerSymbol) → 18 ≤ c → slice_get table.classes c ≡ Some row →
+  pub written_agrees : (c : ℕ) (row : ClassRow) (arity : ℕ) (m : MakerSymbol) → 18 ≤ c → slice_get table.classes c ≡ Some row →
       option_and_then (λ n. slice_get (maker_symbols (names_of table.classes) c (Some (numbers_at 0 (first_numbers table.classes) table.classes c).maker) row.makers) n) (position (nat_eq arity) (maker_arities row.makers)) ≡ Some m →
       AgreesOnMaker (program_with table tree constants) c arity m
   unfolding shifted

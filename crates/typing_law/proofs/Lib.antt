@@ -25,3 +25,4 @@ mod Tables
 mod Numbered
 mod FileClasses
 mod FileMakers
+mod MadeMakers

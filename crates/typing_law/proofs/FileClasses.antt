@@ -1,8 +1,12 @@
 -- The rows of a file's classes, and what their declarations break.
-use Rattle.std.proofs.Common.{◌≡◌, ◌∙◌, ℕ, zero, suc, ◌+◌, ◌-◌, ◌≤◌, Bool, IsTrue, List, [], ◌∷◌, ◌++◌, length, map, Option, Some, None, option_map, slice_get, refl, subst, sym, ap, arith, nat_lt}
+use Rattle.std.proofs.Common.{◌≡◌, ◌∙◌, ℕ, zero, suc, ◌+◌, ◌-◌, ◌≤◌, Bool, ◌||◌, IsTrue, List, [], ◌∷◌, ◌++◌, length, map, Option, Some, None, option_map, slice_get, refl, subst, sym, ap, arith, nat_lt}
 use Rattle.std.specs.List.{flat_map, list_all}
 use Rattle.std.proofs.lemmas.Option.{none-some, same_Some}
-use Rattle.std.proofs.lemmas.Bool.{and_from}
+use Rattle.std.proofs.lemmas.Bool.{and_from, or_left, or_right}
+use Rattle.core_tree.specs.declared.ty.Ty.TheVariants as ty
+use Rattle.core_tree.specs.Types.{is_void}
+use Rattle.java_syntax.specs.declared.name.TypeTree.{TypeTree}
+use Rattle.typing_law.proofs.TypeFacts as facts
 use Rattle.core_tree.specs.declared.program.Program.{Program}
 use Rattle.core_tree.specs.WellTyped.{is_value}
 use Rattle.java_syntax.specs.declared.fault.Fault.{Fault}
@@ -98,3 +102,23 @@ module _ (env : Environment) (p : Program) (classes : (x : Name) (c : ℕ) → c
       let here = none_10 c (member.Maker m) (empty_parts (declaration_faults env c (member.Maker m)) (flat_map (declaration_faults env c) more) none).0 in
       subst (λ r. IsTrue (list_all (is_value p) (declared_types env.symbols.names r.params))) (same_Some (maker_row m) y is) (params_values m.params (maker_scope c) (empty_parts (params_10 env m.params (maker_scope c)) (flat_map (exception_10 env) m.throws) here).0)
   maker_values c (member.Maker m ∷ more) (suc i) y none is = maker_values c more i y (empty_parts (declaration_faults env c (member.Maker m)) (flat_map (declaration_faults env c) more) none).1 is
+
+  answer_value : (t : Option TypeTree) → answer_10 env t ≡ [] → IsTrue (is_value p (answer_type env.symbols.names t) || is_void (answer_type env.symbols.names t))
+  answer_value None none = or_right (is_value p ty.Void) (is_void ty.Void) facts.is_void-Void
+  answer_value (Some t) none = or_left (is_value p (declared_type env.symbols.names t)) (is_void (declared_type env.symbols.names t)) (declared_value env p classes t none)
+
+  -- the types of a method's parameters and result
+  abbrev pub HasMethodValues : MethodRow → Type 0
+  HasMethodValues y = IsTrue (list_all (is_value p) (declared_types env.symbols.names y.params)) × IsTrue (is_value p (answer_type env.symbols.names y.answer) || is_void (answer_type env.symbols.names y.answer))
+
+  pub method_values : (c : ℕ) (members : List Member) (i : ℕ) (y : MethodRow) → flat_map (declaration_faults env c) members ≡ [] → slice_get (methods_in members) i ≡ Some y → HasMethodValues y
+  method_values c [] i y none is = absurd (none-some y is)
+  method_values c (member.Field f ∷ more) i y none is = method_values c more i y (empty_parts (declaration_faults env c (member.Field f)) (flat_map (declaration_faults env c) more) none).1 is
+  method_values c (member.Maker m ∷ more) i y none is = method_values c more i y (empty_parts (declaration_faults env c (member.Maker m)) (flat_map (declaration_faults env c) more) none).1 is
+  method_values c (member.Empty ∷ more) i y none is = method_values c more i y (empty_parts (declaration_faults env c member.Empty) (flat_map (declaration_faults env c) more) none).1 is
+  method_values c (member.Method m ∷ more) zero y none is =
+      let here = none_10 c (member.Method m) (empty_parts (declaration_faults env c (member.Method m)) (flat_map (declaration_faults env c) more) none).0 in
+      let parts = empty_parts (answer_10 env m.answer) (params_10 env m.params (method_scope env c m) ++ flat_map (exception_10 env) m.throws) here in
+      subst HasMethodValues (same_Some (method_row m) y is)
+      (params_values m.params (method_scope env c m) (empty_parts (params_10 env m.params (method_scope env c m)) (flat_map (exception_10 env) m.throws) parts.1).0, answer_value m.answer parts.0)
+  method_values c (member.Method m ∷ more) (suc i) y none is = method_values c more i y (empty_parts (declaration_faults env c (member.Method m)) (flat_map (declaration_faults env c) more) none).1 is

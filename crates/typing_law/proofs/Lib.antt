@@ -26,3 +26,4 @@ mod Numbered
 mod FileClasses
 mod FileMakers
 mod MadeMakers
+mod FileMethods

@@ -28,8 +28,9 @@ use Rattle.java_names.specs.declared.numbers.Numbers.{Numbers}
 use Rattle.java_names.specs.declared.symbol.ClassSymbol.{ClassSymbol}
 use Rattle.java_names.specs.declared.symbol.MethodSymbol.{MethodSymbol}
 use Rattle.java_names.specs.declared.symbol.Selector.{Selector}
+use Rattle.java_names.specs.declared.symbol.Symbols.{Symbols}
 use Rattle.java_names.specs.BuiltIn.{is_built_in, in_file}
-use Rattle.java_names.specs.Lookups.{class_at, line_of, nearest, method_in, method_at}
+use Rattle.java_names.specs.Lookups.{class_at, line_of, is_below, nearest, method_in, method_at}
 use Rattle.java_names.specs.Numbers.{made_for, numbers_after, first_numbers}
 use Rattle.java_names.specs.Selectors.{same_selector, selector_of, selectors_of}
 use Rattle.java_names.specs.Symbols.{class_symbol, following, method_symbol, method_symbols, methods_of, selectors_in, names_of, symbols_of}
@@ -177,3 +178,103 @@ module _ (tree : FileTree) (constants : List (ℕ × Option Literal)) (none : of
       let stands = stands_at (own_method env) methods_in (λ r. r.methods) (λ n. n.method) (IsMethodOf env) (λ all known c k. refl) method_counts (method_lengths env) (own_found env) tree.classes (first_numbers table.classes) refl d i row y least is_row is_y in
       record { method = stands.0; found = stands.1; is = stands.2;
         values = method_values (env_with table tree []) (program_with table tree constants) (class_within table tree constants) d at.tree.members i y (ap (λ n. flat_map (declaration_faults (env_with table tree []) n) at.tree.members) (sym place) ∙ faults) here }
+
+  -- ---- what is looked up
+
+  abbrev pub symbols : Symbols
+  symbols = symbols_of table
+
+  -- `getMessage` of Throwable
+  pub record IsGetMessage (c arity : ℕ) (m : MethodSymbol) : Type 0 where
+    pub below : IsTrue (is_below symbols c 1)
+    pub no_arity : arity ≡ 0
+    pub number : m.number ≡ None
+    pub params : m.params ≡ []
+    pub answer : m.answer ≡ ty.Text
+    pub instance : m.is_static ≡ false
+    pub selector : m.selector ≡ position (same_selector (selector_of get_message)) all_selectors
+
+  -- a method of the file, in the nearest class that declares it
+  pub record IsOfFile (c : ℕ) (key : Selector) (m : MethodSymbol) : Type 0 where
+    pub class : ℕ
+    pub least : 18 ≤ class
+    pub below : IsTrue (is_below symbols c class)
+    pub row : ClassRow
+    pub is_row : slice_get table.classes class ≡ Some row
+    pub found : MethodFound all_names all_selectors class (Some (first_method class)) row.methods key m
+    pub program : InProgram class found.row (first_method class + found.place)
+
+  from_zero : (c : ℕ) → 0 + c ≡ c
+  from_zero c = omega arith
+
+  -- the methods that class d declares, looked up by a name and a number of parameters
+  abbrev look : ℕ → Option ℕ → List MethodRow → Selector → Option MethodSymbol
+  look d number ms key = option_and_then (λ n. slice_get (method_symbols all_names all_selectors d number ms) n) (position (same_selector key) (selectors_in ms))
+
+  same_arity : (x : List ℕ) (arity : ℕ) (y : MethodRow) → same_selector (record { name = x; arity = arity }) (selector_of y) ≡ true → length y.params ≡ arity
+  same_arity x arity y same = sym (eqb-true arity (length y.params) (and_r (same_name x y.name) (nat_eq arity (length y.params)) same))
+
+  message_answer : answer_type all_names (Some string_type) ≡ ty.Text
+  message_answer = refl
+
+  get_message_found : (c : ℕ) (x : List ℕ) (arity : ℕ) (m : MethodSymbol) → IsTrue (is_below symbols c 1) → look 1 None (get_message ∷ []) (record { name = x; arity = arity }) ≡ Some m → IsGetMessage c arity m
+  unfolding shifted
+  get_message_found c x arity m below is =
+      let found = method_found all_names all_selectors 1 None (get_message ∷ []) (record { name = x; arity = arity }) m is in
+      let row_is : found.row ≡ get_message = only found.place found.row found.is_row in
+      let of = λ (r : MethodRow). method_symbol all_names all_selectors 1 (shifted None found.place) r in
+      let m_is : m ≡ of get_message = found.is_symbol ∙ ap of row_is in
+      record {
+        below = below;
+        no_arity = sym (same_arity x arity found.row found.same) ∙ ap (λ r. length r.params) row_is;
+        number = ap (λ s. s.number) m_is;
+        params = ap (λ s. s.params) m_is;
+        answer = ap (λ s. s.answer) m_is ∙ message_answer;
+        instance = ap (λ s. s.is_static) m_is;
+        selector = ap (λ s. s.selector) m_is;
+      }
+    where
+      only : (n : ℕ) (y : MethodRow) → slice_get (get_message ∷ []) n ≡ Some y → y ≡ get_message
+      only zero y is = sym (same_Some _ y is)
+      only (suc n) y is = absurd (none-some y is)
+
+  -- a method is `getMessage` of Throwable or one of the file
+  pub method_declared : (c : ℕ) (x : List ℕ) (arity : ℕ) (m : MethodSymbol) → method_of (env_with table tree constants) c x arity ≡ Some m → IsGetMessage c arity m ⊎ IsOfFile c (record { name = x; arity = arity }) m
+  method_declared c x arity m is =
+      let near = nearest_in (method_at symbols (record { name = x; arity = arity })) (line_of symbols c) m is in
+      let d = near.0 in
+      option_and_then_some (λ class. method_in class (record { name = x; arity = arity })) (class_at symbols d) m near.2 (λ class is_class is_m.
+      let row = found_by (class_symbol all_names all_selectors (0 + d) (numbers_at 0 (first_numbers table.classes) table.classes d)) (slice_get table.classes d) class (sym (class_symbol_at table tree constants d) ∙ is_class) in
+      let looked : look d (in_file d (first_method d)) row.0.methods (record { name = x; arity = arity }) ≡ Some m =
+          subst (λ n. look n (in_file n (first_method d)) row.0.methods (record { name = x; arity = arity }) ≡ Some m) (from_zero d) (ap (λ k. method_in k (record { name = x; arity = arity })) (sym row.2) ∙ is_m) in
+      cases d near.1 row.0 row.1 looked (is_built_in d) refl)
+    where
+      cases : (d : ℕ) → IsTrue (is_below symbols c d) → (row : ClassRow) → slice_get table.classes d ≡ Some row → look d (in_file d (first_method d)) row.methods (record { name = x; arity = arity }) ≡ Some m →
+          (b : Bool) → is_built_in d ≡ b → IsGetMessage c arity m ⊎ IsOfFile c (record { name = x; arity = arity }) m
+      cases d below row is_row looked false other =
+          let least = ltb-false d 18 other in
+          let found = method_found all_names all_selectors d (Some (first_method d)) row.methods (record { name = x; arity = arity }) m (subst (λ b. look d (if b then None else Some (first_method d)) row.methods (record { name = x; arity = arity }) ≡ Some m) other looked) in
+          inr (record { class = d; least = least; below = below; row = row; is_row = is_row; found = found; program = in_program d row found.place found.row least is_row found.is_row })
+      cases d below row is_row looked true built_in_d =
+          let declared = found_by (row_of (declared_of tree.classes) (0 + d)) (slice_get (declared_of tree.classes) d) row (sym (row_at (declared_of tree.classes) 0 (declared_of tree.classes) d) ∙ is_row) in
+          let methods_are : row.methods ≡ declared.0.methods = ap (λ r. r.methods) declared.2 in
+          let none_looked = subst (λ b. look d (if b then None else Some (first_method d)) row.methods (record { name = x; arity = arity }) ≡ Some m) built_in_d looked in
+          ⊎_elim
+          (λ e. absurd (none-some m (subst (λ ms. look d None ms (record { name = x; arity = arity }) ≡ Some m) (methods_are ∙ e) none_looked)))
+          (λ e. inl (get_message_found c x arity m (subst (λ n. IsTrue (is_below symbols c n)) e.1 below)
+              (subst (λ n. look n None (get_message ∷ []) (record { name = x; arity = arity }) ≡ Some m) e.1 (subst (λ ms. look d None ms (record { name = x; arity = arity }) ≡ Some m) (methods_are ∙ e.0) none_looked))))
+          (built_methods tree.classes d declared.0 (ltb-true d 18 built_in_d) declared.1)
+
+  -- a static method is called by its number
+  pub static_agrees : (c : ℕ) (key : Selector) (m : MethodSymbol) → IsOfFile c key m → m.is_static ≡ true → AgreesOnStatic (program_with table tree constants) m
+  unfolding shifted
+  static_agrees c key m of_file static =
+      let number : m.number ≡ Some (first_method of_file.class + of_file.found.place) = ap (λ s. s.number) of_file.found.is_symbol in
+      let is_static_row : is_static of_file.found.row.mods ≡ true = sym (ap (λ s. s.is_static) of_file.found.is_symbol) ∙ static in
+      record {
+        method = of_file.program.method;
+        found = ap (λ k. slice_get (program_with table tree constants).methods (unwrap_or k 0)) number ∙ of_file.program.found;
+        static = of_file.program.is.on_object ∙ ap not is_static_row;
+        params = of_file.program.is.params ∙ sym (ap (λ s. s.params) of_file.found.is_symbol);
+        answer = of_file.program.is.answer ∙ sym (ap (λ s. s.answer) of_file.found.is_symbol);
+      }

@@ -27,3 +27,4 @@ mod FileClasses
 mod FileMakers
 mod MadeMakers
 mod FileMethods
+mod FileSelectors

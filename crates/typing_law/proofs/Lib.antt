@@ -28,3 +28,5 @@ mod FileMakers
 mod MadeMakers
 mod FileMethods
 mod FileSelectors
+mod FileChosen
+mod FileLines

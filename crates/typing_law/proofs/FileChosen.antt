@@ -113,7 +113,7 @@ module _ (tree : FileTree) (constants : List (ℕ × Option Literal)) (none : of
 
   -- ---- the program's choice
 
-  row_of_below : (c d : ℕ) → IsTrue (is_below (symbols tree constants none) c d) → (row : ClassRow) × (slice_get table.classes c ≡ Some row)
+  pub row_of_below : (c d : ℕ) → IsTrue (is_below (symbols tree constants none) c d) → (row : ClassRow) × (slice_get table.classes c ≡ Some row)
   row_of_below c d below = cases (slice_get table.classes c) refl
     where
       cases : (found : Option ClassRow) → slice_get table.classes c ≡ found → (row : ClassRow) × (slice_get table.classes c ≡ Some row)

@@ -33,11 +33,11 @@ module _ (tree : FileTree) (constants : List (ℕ × Option Literal)) (none : of
   abbrev table : ClassTable
   table = table_of tree
 
-  abbrev on : ℕ → List ℕ → Type 0
+  abbrev pub on : ℕ → List ℕ → Type 0
   on d line = IsTrue (list_any (λ a. a == d) line)
 
   -- a class on a line: the first of it, or one on the line of the superclass
-  line_cases : (c : ℕ) (row : ClassRow) (d : ℕ) {Q : Type 0} → slice_get table.classes c ≡ Some row → on d row.line → (c ≡ d → Q) → ((q : ℕ) (above : ClassRow) → slice_get table.classes q ≡ Some above → row.line ≡ c ∷ above.line → on d above.line → Q) → Q
+  pub line_cases : (c : ℕ) (row : ClassRow) (d : ℕ) {Q : Type 0} → slice_get table.classes c ≡ Some row → on d row.line → (c ≡ d → Q) → ((q : ℕ) (above : ClassRow) → slice_get table.classes q ≡ Some above → row.line ≡ c ∷ above.line → on d above.line → Q) → Q
   line_cases c row d {Q = Q} is on_line here higher = either (c == d) refl (subst (on d) line on_line)
     where
       line : row.line ≡ c ∷ line_above table.classes row.parent
@@ -71,7 +71,7 @@ module _ (tree : FileTree) (constants : List (ℕ × Option Literal)) (none : of
       le_refl k = omega arith
 
   -- the line of a class in the symbols
-  line_is : (c : ℕ) (row : ClassRow) → slice_get table.classes c ≡ Some row → line_of (symbols tree constants none) c ≡ row.line
+  pub line_is : (c : ℕ) (row : ClassRow) → slice_get table.classes c ≡ Some row → line_of (symbols tree constants none) c ≡ row.line
   line_is c row is = ap (λ found. option_map_or (λ class. class.line) found []) (class_symbol_at table tree constants c ∙ ap (option_map (class_symbol (all_names tree constants none) (all_selectors tree constants none) (0 + c) (numbers_at 0 (first_numbers table.classes) table.classes c))) is)
 
   -- the superclass of a class
@@ -119,7 +119,7 @@ module _ (tree : FileTree) (constants : List (ℕ × Option Literal)) (none : of
           longer : (m n : ℕ) → m ≡ suc n → m ≤ n → ⊥
           longer m n same less = omega arith
 
-  throwable_below : (c : ℕ) → is_throwable (program_with table tree constants) c ≡ is_below (symbols tree constants none) c 1
+  pub throwable_below : (c : ℕ) → is_throwable (program_with table tree constants) c ≡ is_below (symbols tree constants none) c 1
   throwable_below c = sym (same_below table tree constants is_table short c 1)
 
   -- every instance method that is found in a superclass

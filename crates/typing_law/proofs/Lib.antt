@@ -30,3 +30,4 @@ mod FileMethods
 mod FileSelectors
 mod FileChosen
 mod FileLines
+mod FileMessages

@@ -31,3 +31,4 @@ mod FileSelectors
 mod FileChosen
 mod FileLines
 mod FileMessages
+mod FileLookups

@@ -67,15 +67,20 @@ pub record AgreesOnMaker (p : Program) (c : ℕ) (arity : ℕ) (m : MakerSymbol)
   -- one of a built-in class has no parameter, or the message
   pub built_in : m.number ≡ None → IsTrue (is_built_in c) × ((m.params ≡ []) ⊎ ((m.params ≡ ty.Text ∷ []) × IsTrue (not (c == 0))))
 
--- what is looked up in an environment is so in the program
-pub record Agrees (env : Environment) (p : Program) : Type 0 where
+-- superclasses, methods and constructors are so in the program
+pub record AgreesOnCalls (env : Environment) (p : Program) : Type 0 where
   pub below : (c d : ℕ) → is_below env.symbols c d ≡ is_subclass p.classes c d
   pub superclass : (c : ℕ) → superclass_of env c ≡ superclass p c
   pub class : (x : Name) (c : ℕ) → class_named env x ≡ Some c → IsTrue (nat_lt c (length p.classes))
-  pub field : (c : ℕ) (x : Name) (m : FieldSymbol) → member_of env c x ≡ Some m → AgreesOnField env p c m
   pub method : (c : ℕ) (x : Name) (arity : ℕ) (m : MethodSymbol) → method_of env c x arity ≡ Some m → AgreesOnMethod p c arity m
   pub super : (c b : ℕ) (x : Name) (arity : ℕ) (m : MethodSymbol) → superclass_of env c ≡ Some b → method_of env b x arity ≡ Some m → m.is_static ≡ false → AgreesOnSuper p c m
   pub maker : (c : ℕ) (arity : ℕ) (m : MakerSymbol) → maker_of env c arity ≡ Some m → AgreesOnMaker p c arity m
+
+-- what is looked up in an environment is so in the program
+pub record Agrees (env : Environment) (p : Program) : Type 0 where
+  pub calls : AgreesOnCalls env p
+  pub open calls use *
+  pub field : (c : ℕ) (x : Name) (m : FieldSymbol) → member_of env c x ≡ Some m → AgreesOnField env p c m
 
 -- a local in scope is a local of the body, of a type that variables have
 pub record AgreesOnLocal (p : Program) (s : Scope) (core : CoreScope) (n : ℕ) : Type 0 where

@@ -1,6 +1,10 @@
+use Rattle.typing_law.proofs.FileLookups.{calls_agree}
 use Rattle.typing_law.proofs.Exprs.{expr_right}
 use Rattle.typing_law.proofs.Members.{method_right, maker_right, made_right, start_right}
 use Rattle.typing_law.proofs.law.members_are_typed.Goals as goal
+
+pub returns-clause-calls : goal.returns-clause-calls
+returns-clause-calls c tree constants is_table clear none = calls_agree tree constants is_table clear none
 
 pub returns-clause-expressions : goal.returns-clause-expressions
 returns-clause-expressions c env p s body e agrees inside none = expr_right env p agrees s body inside e none

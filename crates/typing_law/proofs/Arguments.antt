@@ -1,10 +1,10 @@
 -- Arguments that break no rule fit the parameters.
-use Rattle.std.proofs.Common.{◌≡◌, ◌∙◌, ℕ, zero, suc, Bool, true, false, ◌||◌, ◌&&◌, IsTrue, List, [], ◌∷◌, ◌++◌, length, map, Option, Some, None, refl, subst, sym, ap, arith, if◌then◌else◌}
+use Rattle.std.proofs.Common.{◌≡◌, ◌∙◌, ℕ, suc, false, IsTrue, List, [], ◌∷◌, length, map, refl, subst, sym, arith, if◌then◌else◌}
 use Rattle.std.specs.List.{list_all}
-use Rattle.std.proofs.lemmas.Bool.{false≢true, and_from}
+use Rattle.std.proofs.lemmas.Bool.{and_from}
 use Rattle.core_tree.specs.declared.ty.Ty.{Ty}
 use Rattle.core_tree.specs.declared.program.Program.{Program}
-use Rattle.core_tree.specs.Types.{is_void, is_assignable}
+use Rattle.core_tree.specs.Types.{is_void}
 use Rattle.core_tree.specs.Typing.{Scope as CoreScope, fits, all_fit, type_of}
 use Rattle.core_tree.specs.WellTyped.{is_value}
 use Rattle.java_exprs.specs.declared.environment.Environment.{Environment}

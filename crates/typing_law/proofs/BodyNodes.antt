@@ -1,10 +1,7 @@
 -- Each kind of statement: one that breaks no rule is well typed (JLS 14).
-use Rattle.std.proofs.Common.{◌≡◌, ◌∙◌, ⊎_elim, ◌⊎◌, ℕ, Bool, true, false, not, ◌||◌, ◌&&◌, ◌==◌, IsTrue, List, [], ◌∷◌, ◌++◌, length, map, Option, Some, None, option_map, is_some, slice_get, refl, subst, sym, ap, if◌then◌else◌}
-use Rattle.std.specs.Prelude.{option_and_then, is_none, unwrap_or}
+use Rattle.std.proofs.Common.{◌≡◌, ◌∙◌, ℕ, Bool, true, false, ◌||◌, ◌&&◌, IsTrue, List, [], ◌∷◌, Option, Some, None, is_some, refl, subst, ap, if◌then◌else◌}
 use Rattle.std.specs.Option.{option_map_or}
-use Rattle.std.proofs.lemmas.Option.{none-some, same_Some}
-use Rattle.std.proofs.lemmas.Bool.{false≢true, or_cases, or_left, or_right, and_from, eq-eqb}
-use Rattle.std.proofs.lemmas.List.{append-nil}
+use Rattle.std.proofs.lemmas.Bool.{or_left, or_right, and_from}
 use Rattle.core_tree.specs.declared.ty.Ty.{Ty}
 use Rattle.core_tree.specs.declared.ty.Ty.TheVariants as ty
 use Rattle.core_tree.specs.declared.operator.UpOp.{UpOp}
@@ -12,48 +9,40 @@ use Rattle.core_tree.specs.declared.operator.UpOp.TheVariants as up
 use Rattle.core_tree.specs.declared.expr.Expr.{Expr as Core}
 use Rattle.core_tree.specs.declared.stmt.Stmt.{Stmt as Step}
 use Rattle.core_tree.specs.declared.stmt.Stmt.TheVariants as step
-use Rattle.core_tree.specs.declared.stmt.Stmt.TheViews as view
 use Rattle.core_tree.specs.declared.program.Program.{Program}
-use Rattle.core_tree.specs.Types.{is_int, is_boolean, is_void, is_same_type, is_assignable, is_subclass}
-use Rattle.core_tree.specs.Typing.{Scope as CoreScope, PartType, has, fits, has_text, ints, booleans, type_of, target_type, operand_type, is_update, if_there, is_condition, is_typed_stmt}
-use Rattle.core_tree.specs.WellTyped.{is_value, declared_numbers, numbers_from}
+use Rattle.core_tree.specs.Types.{is_int, is_boolean, is_void, is_same_type}
+use Rattle.core_tree.specs.Typing.{Scope as CoreScope, PartType, fits, has_text, ints, booleans, type_of, target_type, is_update, if_there, is_condition, is_typed_stmt}
+use Rattle.core_tree.specs.WellTyped.{declared_numbers}
 use Rattle.core_tree.proofs.TypeNodes.{is_same_type-Void}
-use Rattle.core_tree.proofs.StmtNodes.{is_typed_stmt-Empty, is_typed_stmt-Block, is_typed_stmt-Declare, is_typed_stmt-Assign, is_typed_stmt-Update, is_typed_stmt-Eval, is_typed_stmt-Print, is_typed_stmt-If, is_typed_stmt-While, is_typed_stmt-DoWhile, is_typed_stmt-For, is_typed_stmt-Return, is_typed_stmt-Break, is_typed_stmt-Continue, is_typed_stmt-Throw, is_typed_stmt-Try, declared_numbers-Empty, declared_numbers-Block, declared_numbers-Declare, declared_numbers-Assign, declared_numbers-Update, declared_numbers-Eval, declared_numbers-Print, declared_numbers-If, declared_numbers-While, declared_numbers-DoWhile, declared_numbers-For, declared_numbers-Return, declared_numbers-Break, declared_numbers-Continue, declared_numbers-Throw, declared_numbers-Try}
-use Rattle.java_syntax.specs.declared.fault.Fault.{Fault}
+use Rattle.core_tree.proofs.StmtNodes.{is_typed_stmt-Empty, is_typed_stmt-Assign, is_typed_stmt-Update, is_typed_stmt-Eval, is_typed_stmt-Print, is_typed_stmt-Return, is_typed_stmt-Break, is_typed_stmt-Continue, is_typed_stmt-Throw, declared_numbers-Empty, declared_numbers-Assign, declared_numbers-Update, declared_numbers-Eval, declared_numbers-Print, declared_numbers-Return, declared_numbers-Break, declared_numbers-Continue, declared_numbers-Throw}
 use Rattle.java_syntax.specs.declared.operator.AssignOp.{AssignOp}
 use Rattle.java_syntax.specs.declared.operator.AssignOp.TheVariants as assign
 use Rattle.java_syntax.specs.declared.operator.StepOp.{StepOp}
 use Rattle.java_syntax.specs.declared.operator.StepOp.TheVariants as count
 use Rattle.java_syntax.specs.declared.operator.Fix.{Fix}
 use Rattle.java_syntax.specs.declared.expression.Expr.{Expr}
-use Rattle.java_syntax.specs.declared.statement.LocalTree.{LocalTree}
 use Rattle.java_syntax.specs.declared.statement.Stmt.TheOpen.{Stmt-F}
 use Rattle.java_names.specs.declared.scope.Scope.{Scope}
-use Rattle.java_names.specs.Scope.{declared, left, back_at}
-use Rattle.java_names.specs.Types.{declared_type}
 use Rattle.java_exprs.specs.declared.environment.Environment.{Environment}
 use Rattle.java_exprs.specs.declared.typed.Denotation.{Denotation}
 use Rattle.java_exprs.specs.declared.typed.Denotation.TheVariants as denotes
-use Rattle.java_exprs.specs.Attr.{Attr, value_type, unless, only_if, of_rule, named_10, bare_19, is_no_value, value_faults, values_faults, statement_faults}
-use Rattle.java_exprs.specs.Lookups.{unknown_type, type_named}
+use Rattle.java_exprs.specs.Attr.{Attr, value_type, only_if, of_rule, named_10, bare_19, is_no_value, value_faults}
 use Rattle.java_exprs.specs.Rules.{wants, wants_type, both_11, bitwise_11}
 use Rattle.java_exprs.specs.Checks.{attr}
-use Rattle.java_types.specs.Effects.{Effect, Part, CatchPart, StmtNode, sequence, clauses, inner, looped, branch}
-use Rattle.java_types.specs.Statements.{local_type, with_local, started, updated, after_of, target_of, sum_op, assigned, counted, evaluated, optional_core, step_of, stmt_10, stmt_11, stmt_14, stmt_17, stmt_18, stmt_20, stmt_21, again_10, condition_11, assign_11, return_11, sum_11, throwable, target_18, constant_20, optional_faults, stmt_broken_below, stmt_broken_here, effect_at}
-use Rattle.typing_law.specs.Means.{HasType, Means, IsRight, IsPlace, prints}
-use Rattle.typing_law.specs.Agrees.{Agrees, AgreesOnScope}
-use Rattle.typing_law.specs.Scopes.{IsKnown, GoesTo, FitsBody, Includes}
+use Rattle.java_types.specs.Effects.{StmtNode}
+use Rattle.java_types.specs.Statements.{target_of, sum_op, assigned, counted, evaluated, optional_core, stmt_10, stmt_11, stmt_14, stmt_17, stmt_18, stmt_20, stmt_21, condition_11, assign_11, return_11, throwable, target_18, constant_20, optional_faults, stmt_broken_below, stmt_broken_here, effect_at}
+use Rattle.typing_law.specs.Means.{Means, prints}
+use Rattle.typing_law.specs.Agrees.{Agrees}
+use Rattle.typing_law.specs.Scopes.{IsKnown, FitsBody}
 use Rattle.typing_law.proofs.TypeFacts as facts
-use Rattle.typing_law.proofs.NoFaults.{empty_parts, empty_rule, unless_empty, only_if_empty, no_place}
-use Rattle.typing_law.proofs.Standing.{and_l, and_r, has_fits, has_boolean}
+use Rattle.typing_law.proofs.NoFaults.{empty_parts, empty_rule, unless_empty, no_place}
+use Rattle.typing_law.proofs.Standing.{has_boolean}
 use Rattle.typing_law.proofs.Parts.{Holds, IsValue, value_part, right_part, wanted}
 use Rattle.typing_law.proofs.Arguments.{fits_wanted}
-use Rattle.typing_law.proofs.Spelled.{known_type, spelled_value}
 use Rattle.typing_law.proofs.Exprs.{expr_right}
-use Rattle.typing_law.proofs.Operators.{int_part}
 use Rattle.typing_law.proofs.Targets.{values_not_void, target_typed, is_variable, ints_update, bits_update, sum_update}
-use Rattle.typing_law.proofs.Scopes.{goes_nowhere, goes_on, goes_left, goes_declared, numbers_on, fits_before, fits_after, scope_agrees, get_end}
-use Rattle.typing_law.proofs.Statements.{StmtIsRight, StmtsAreRight, BranchIsRight, CatchesAreRight, PartHolds, PartsHold, CatchesHold, BranchHolds, sequence_right, clauses_right, inner_right, looped_right, branch_right, is_typed_catch, catch_numbers}
+use Rattle.typing_law.proofs.Scopes.{goes_nowhere, scope_agrees}
+use Rattle.typing_law.proofs.Statements.{StmtIsRight}
 
 -- no rule is broken at a statement or below it
 pub record BreaksNone (env : Environment) (n : StmtNode) (s : Scope) : Type 0 where

@@ -1,75 +1,49 @@
 -- Statements with parts, and declarations: one that breaks no rule is well typed (JLS 14).
-use Rattle.std.proofs.Common.{◌≡◌, ◌∙◌, ⊎_elim, ◌⊎◌, ℕ, Bool, true, false, not, ◌||◌, ◌&&◌, ◌==◌, IsTrue, List, [], ◌∷◌, ◌++◌, length, map, Option, Some, None, option_map, is_some, slice_get, refl, subst, sym, ap, if◌then◌else◌}
-use Rattle.std.specs.Prelude.{option_and_then, is_none, unwrap_or}
+use Rattle.std.proofs.Common.{◌≡◌, ◌∙◌, ℕ, Bool, true, ◌||◌, ◌&&◌, IsTrue, List, [], ◌∷◌, ◌++◌, length, map, Option, Some, None, option_map, is_some, slice_get, refl, subst, sym, ap}
+use Rattle.std.specs.Prelude.{unwrap_or}
 use Rattle.std.specs.Option.{option_map_or}
-use Rattle.std.proofs.lemmas.Option.{none-some, same_Some}
-use Rattle.std.proofs.lemmas.Bool.{false≢true, or_cases, or_left, or_right, and_from, eq-eqb}
-use Rattle.std.proofs.lemmas.List.{append-nil}
+use Rattle.std.proofs.lemmas.Bool.{false≢true, and_from}
 use Rattle.core_tree.specs.declared.ty.Ty.{Ty}
 use Rattle.core_tree.specs.declared.ty.Ty.TheVariants as ty
-use Rattle.core_tree.specs.declared.operator.UpOp.{UpOp}
-use Rattle.core_tree.specs.declared.operator.UpOp.TheVariants as up
-use Rattle.core_tree.specs.declared.expr.Expr.{Expr as Core}
 use Rattle.core_tree.specs.declared.stmt.Stmt.{Stmt as Step}
 use Rattle.core_tree.specs.declared.stmt.Stmt.TheVariants as step
-use Rattle.core_tree.specs.declared.stmt.Stmt.TheViews as view
 use Rattle.core_tree.specs.declared.program.Program.{Program}
-use Rattle.core_tree.specs.Types.{is_int, is_boolean, is_void, is_same_type, is_assignable, is_subclass}
-use Rattle.core_tree.specs.Typing.{Scope as CoreScope, PartType, has, fits as fits_part, has_text, ints, booleans, type_of, target_type, operand_type, is_update, if_there, is_condition, is_typed_stmt}
+use Rattle.core_tree.specs.Types.{is_same_type}
+use Rattle.core_tree.specs.Typing.{Scope as CoreScope, has, fits as fits_part, if_there, is_condition, is_typed_stmt}
 use Rattle.core_tree.specs.WellTyped.{is_value, declared_numbers, numbers_from}
-use Rattle.core_tree.proofs.TypeNodes.{is_same_type-Void}
-use Rattle.core_tree.proofs.StmtNodes.{is_typed_stmt-Empty, is_typed_stmt-Block, is_typed_stmt-Declare, is_typed_stmt-Assign, is_typed_stmt-Update, is_typed_stmt-Eval, is_typed_stmt-Print, is_typed_stmt-If, is_typed_stmt-While, is_typed_stmt-DoWhile, is_typed_stmt-For, is_typed_stmt-Return, is_typed_stmt-Break, is_typed_stmt-Continue, is_typed_stmt-Throw, is_typed_stmt-Try, declared_numbers-Empty, declared_numbers-Block, declared_numbers-Declare, declared_numbers-Assign, declared_numbers-Update, declared_numbers-Eval, declared_numbers-Print, declared_numbers-If, declared_numbers-While, declared_numbers-DoWhile, declared_numbers-For, declared_numbers-Return, declared_numbers-Break, declared_numbers-Continue, declared_numbers-Throw, declared_numbers-Try}
-use Rattle.java_syntax.specs.declared.fault.Fault.{Fault}
-use Rattle.java_syntax.specs.declared.operator.AssignOp.{AssignOp}
-use Rattle.java_syntax.specs.declared.operator.AssignOp.TheVariants as assign
-use Rattle.java_syntax.specs.declared.operator.StepOp.{StepOp}
-use Rattle.java_syntax.specs.declared.operator.StepOp.TheVariants as count
-use Rattle.java_syntax.specs.declared.operator.Fix.{Fix}
+use Rattle.core_tree.proofs.StmtNodes.{is_typed_stmt-Block, is_typed_stmt-Declare, is_typed_stmt-If, is_typed_stmt-While, is_typed_stmt-DoWhile, is_typed_stmt-For, is_typed_stmt-Try, declared_numbers-Block, declared_numbers-Declare, declared_numbers-If, declared_numbers-While, declared_numbers-DoWhile, declared_numbers-For, declared_numbers-Try}
 use Rattle.java_syntax.specs.declared.expression.Expr.{Expr}
 use Rattle.java_syntax.specs.declared.statement.LocalTree.{LocalTree}
 use Rattle.java_syntax.specs.declared.statement.Stmt.TheOpen.{Stmt-F}
 use Rattle.java_names.specs.declared.scope.Scope.{Scope}
 use Rattle.java_names.specs.Scope.{declared, left, back_at}
-use Rattle.java_names.specs.Types.{declared_type}
 use Rattle.java_exprs.specs.declared.environment.Environment.{Environment}
-use Rattle.java_exprs.specs.declared.typed.Denotation.{Denotation}
-use Rattle.java_exprs.specs.declared.typed.Denotation.TheVariants as denotes
-use Rattle.java_exprs.specs.Attr.{Attr, value_type, unless, only_if, of_rule, named_10, bare_19, is_no_value, value_faults, values_faults, statement_faults}
-use Rattle.java_exprs.specs.Lookups.{unknown_type, type_named}
-use Rattle.java_exprs.specs.Rules.{wants, wants_type, both_11, bitwise_11}
+use Rattle.java_exprs.specs.Attr.{unless, only_if, of_rule, value_faults}
+use Rattle.java_exprs.specs.Lookups.{unknown_type}
+use Rattle.java_exprs.specs.Rules.{wants_type}
 use Rattle.java_exprs.specs.Checks.{attr}
-use Rattle.java_types.specs.Effects.{Effect, Part, CatchPart, StmtNode, sequence, clauses, inner, looped, branch}
-use Rattle.java_types.specs.Statements.{local_type, with_local, started, updated, after_of, target_of, sum_op, assigned, counted, evaluated, optional_core, step_of, stmt_10, stmt_11, stmt_14, stmt_17, stmt_18, stmt_20, stmt_21, again_10, condition_11, assign_11, return_11, sum_11, throwable, target_18, constant_20, optional_faults, stmt_broken_below, stmt_broken_here, effect_at}
-use Rattle.typing_law.specs.Means.{HasType, Means, IsRight, IsPlace, prints}
-use Rattle.typing_law.specs.Agrees.{Agrees, AgreesOnScope}
-use Rattle.typing_law.specs.Scopes.{IsKnown, GoesTo, FitsBody, Includes}
-use Rattle.typing_law.proofs.TypeFacts as facts
-use Rattle.typing_law.proofs.NoFaults.{empty_parts, empty_rule, unless_empty, only_if_empty, no_place}
-use Rattle.typing_law.proofs.Standing.{and_l, and_r, has_fits, has_boolean}
-use Rattle.typing_law.proofs.Parts.{Holds, IsValue, value_part, right_part, wanted}
-use Rattle.typing_law.proofs.Arguments.{fits_wanted}
+use Rattle.java_types.specs.Effects.{Part, CatchPart, sequence, clauses, inner, looped, branch}
+use Rattle.java_types.specs.Statements.{local_type, with_local, started, updated, optional_core, again_10, condition_11, optional_faults}
+use Rattle.typing_law.specs.Agrees.{Agrees}
+use Rattle.typing_law.specs.Scopes.{IsKnown, FitsBody}
+use Rattle.typing_law.proofs.NoFaults.{empty_parts, empty_rule, unless_empty, only_if_empty}
 use Rattle.typing_law.proofs.Spelled.{known_type, spelled_value}
-use Rattle.typing_law.proofs.Exprs.{expr_right}
-use Rattle.typing_law.proofs.Operators.{int_part}
-use Rattle.typing_law.proofs.Targets.{values_not_void, target_typed, is_variable, ints_update, bits_update, sum_update}
-use Rattle.typing_law.proofs.Scopes.{goes_nowhere, goes_on, goes_left, goes_declared, numbers_on, fits_before, fits_after, scope_agrees, get_end}
-use Rattle.typing_law.proofs.Statements.{StmtIsRight, StmtsAreRight, BranchIsRight, CatchesAreRight, PartHolds, PartsHold, CatchesHold, BranchHolds, sequence_right, clauses_right, inner_right, looped_right, branch_right, is_typed_catch, catch_numbers}
-
+use Rattle.typing_law.proofs.Scopes.{goes_on, goes_left, goes_declared, numbers_on, fits_before, fits_after, get_end}
+use Rattle.typing_law.proofs.Statements.{StmtIsRight, PartHolds, PartsHold, CatchesHold, BranchHolds, sequence_right, clauses_right, inner_right, looped_right, branch_right, is_typed_catch, catch_numbers}
 use Rattle.std.specs.Prelude.{nat_lt}
-use Rattle.core_tree.specs.declared.stmt.Catch.{Catch as Handler}
-use Rattle.core_tree.specs.declared.stmt.Stmt.TheFolds.{fold-Stmt, fold-roll-Catch}
+use Rattle.core_tree.specs.declared.stmt.Stmt.TheFolds.{fold-roll-Catch}
 use Rattle.core_tree.specs.Typing.{InLoop, all_of, stmt_node, catch_node, is_throwable}
 use Rattle.core_tree.specs.WellTyped.{declared_in, all_declared, declared_node, declared_catch}
 use Rattle.java_syntax.specs.declared.name.Ident.{Ident}
 use Rattle.java_exprs.specs.Lookups.{class_named}
 use Rattle.java_names.specs.Types.{is_string as is_string_name}
 use Rattle.java_names.specs.Lookups.{is_below}
-use Rattle.java_types.specs.Effects.{CatchEffect, CatchNode}
-use Rattle.java_types.specs.Statements.{caught_type, exception_10, exception_11, catch_10, catch_11, with_caught, catch_at}
+use Rattle.java_types.specs.Effects.{CatchNode}
+use Rattle.java_types.specs.Statements.{exception_10, catch_10, catch_11, with_caught, catch_at}
 use Rattle.typing_law.proofs.Values.{class_value, value_not_void}
 use Rattle.typing_law.proofs.SameTypes.{same_refl}
 use Rattle.typing_law.proofs.Statements.{CatchHolds, CatchIsRight}
-use Rattle.typing_law.proofs.BodyNodes.{BreaksNone, breaks_none, NodeHolds, condition, optional_fits}
+use Rattle.typing_law.proofs.BodyNodes.{breaks_none, NodeHolds, condition, optional_fits}
 
 module _ (env : Environment) (p : Program) (agrees : Agrees env p) where
   -- ---- declarations

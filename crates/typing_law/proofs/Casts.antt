@@ -1,13 +1,13 @@
 -- Which values can be cast to a class or array type (JLS 15.16, 15.20.2).
-use Rattle.std.proofs.Common.{◌≡◌, ◌∙◌, ⊎_elim, ℕ, Bool, true, false, ◌||◌, ◌&&◌, ◌==◌, IsTrue, List, length, Option, Some, None, is_some, refl, subst, sym, ap}
+use Rattle.std.proofs.Common.{◌≡◌, ◌∙◌, ℕ, Bool, false, ◌||◌, ◌&&◌, ◌==◌, IsTrue, List, length, None, subst, sym, ap}
 use Rattle.std.specs.Option.{option_map_or}
-use Rattle.std.proofs.lemmas.Bool.{false≢true, or_cases, or_left, or_right, and_from}
+use Rattle.std.proofs.lemmas.Bool.{false≢true, or_left, or_right, and_from}
 use Rattle.core_tree.specs.declared.ty.Ty.{Ty}
 use Rattle.core_tree.specs.declared.ty.Ty.TheVariants as ty
 use Rattle.core_tree.specs.declared.ty.Ty.TheViews as type
 use Rattle.core_tree.specs.declared.program.Class.{Class}
 use Rattle.core_tree.specs.declared.program.Program.{Program}
-use Rattle.core_tree.specs.Types.{class_of, elements_of, is_int, is_boolean, is_string, is_null, is_object, is_subclass, is_assignable, is_value_type}
+use Rattle.core_tree.specs.Types.{class_of, elements_of, is_string, is_null, is_object, is_subclass, is_assignable, is_value_type}
 use Rattle.core_tree.specs.Typing.{is_castable}
 use Rattle.core_tree.specs.WellTyped.{is_value}
 use Rattle.core_tree.proofs.TypeNodes.{is_assignable-Int, is_assignable-Bool, is_assignable-Text, is_assignable-Class, is_assignable-Array, is_assignable-Void}
@@ -63,8 +63,9 @@ object_no_string = facts.ty_cases (λ t. IsTrue (is_object t) → is_string t �
 -- a value can be cast
 pub castable : (p : Program) (to from actual : Ty) → IsTrue (is_object to) → IsTrue (is_value p to) → IsTrue (is_assignable p.classes from to || is_assignable p.classes to from) → StandsFor actual from → (actual ≡ from) × IsTrue (is_castable p to from)
 castable p to from actual object value either stands =
-    let is = from_object p.classes to from object either in
-    (stands_exact (λ t. is_object t || is_null t) actual from (ap (λ b. b || is_null ty.Text) facts.is_object-Text ∙ facts.is_null-Text) stands is,
-    and_from (is_object to && is_value_type (length p.classes) to) ((is_object from || is_null from) && (is_assignable p.classes from to || is_assignable p.classes to from))
-    (and_from (is_object to) (is_value_type (length p.classes) to) object value)
-    (and_from (is_object from || is_null from) (is_assignable p.classes from to || is_assignable p.classes to from) is either))
+    let is = from_object p.classes to from object either in (
+      stands_exact (λ t. is_object t || is_null t) actual from (ap (λ b. b || is_null ty.Text) facts.is_object-Text ∙ facts.is_null-Text) stands is,
+      and_from (is_object to && is_value_type (length p.classes) to) ((is_object from || is_null from) && (is_assignable p.classes from to || is_assignable p.classes to from))
+          (and_from (is_object to) (is_value_type (length p.classes) to) object value)
+          (and_from (is_object from || is_null from) (is_assignable p.classes from to || is_assignable p.classes to from) is either),
+    )

@@ -1,42 +1,40 @@
 -- What stands behind a dot: a field or method that breaks no rule is well typed (JLS 15.11, 15.12).
-use Rattle.std.proofs.Common.{◌≡◌, ◌∙◌, ⊎_elim, inl, inr, ℕ, zero, suc, Bool, true, false, not, ◌||◌, ◌&&◌, ◌==◌, IsTrue, List, [], ◌∷◌, ◌++◌, length, map, Option, Some, None, option_map, is_some, refl, subst, sym, ap, arith, if◌then◌else◌}
+use Rattle.std.proofs.Common.{◌≡◌, ◌∙◌, ℕ, suc, Bool, true, false, not, ◌||◌, ◌&&◌, ◌==◌, IsTrue, List, [], ◌∷◌, length, Option, Some, None, option_map, is_some, refl, subst, sym, ap, arith, if◌then◌else◌}
 use Rattle.std.specs.Prelude.{option_and_then, unwrap_or}
 use Rattle.std.specs.Option.{option_map_or}
-use Rattle.std.proofs.lemmas.Option.{none-some, same_Some}
-use Rattle.std.proofs.lemmas.Bool.{false≢true, eqb-true, or_cases, or_left, or_right, and_from}
+use Rattle.std.proofs.lemmas.Bool.{false≢true, eqb-true, or_right, and_from}
 use Rattle.core_tree.specs.declared.ty.Ty.{Ty}
 use Rattle.core_tree.specs.declared.ty.Ty.TheVariants as ty
 use Rattle.core_tree.specs.declared.expr.Expr.{Expr as Core}
 use Rattle.core_tree.specs.declared.expr.Expr.TheVariants as core
 use Rattle.core_tree.specs.declared.expr.Expr.TheViews as view
 use Rattle.core_tree.specs.declared.program.Program.{Program}
-use Rattle.core_tree.specs.Types.{class_of, elements_of, is_string, is_object, is_void, is_assignable}
-use Rattle.core_tree.specs.Typing.{Scope as CoreScope, has as has_part, fits, has_text, is_text_or_null, type_of, where_true}
+use Rattle.core_tree.specs.Types.{class_of, elements_of, is_string, is_object}
+use Rattle.core_tree.specs.Typing.{Scope as CoreScope, has as has_part, fits, is_text_or_null, type_of}
 use Rattle.core_tree.proofs.ExprNodes.{type_of-Length, type_of-TextLength, type_of-TextEquals}
 use Rattle.java_syntax.specs.declared.name.Ident.{Ident}
 use Rattle.java_syntax.specs.declared.expression.Expr.TheOpen.{Expr-F}
-use Rattle.class_table.specs.Names.{Name, same_name}
+use Rattle.class_table.specs.Names.{same_name}
 use Rattle.java_names.specs.declared.scope.Scope.{Scope}
 use Rattle.java_exprs.specs.declared.environment.Environment.{Environment}
 use Rattle.java_exprs.specs.declared.typed.Denotation.{Denotation}
 use Rattle.java_exprs.specs.declared.typed.Denotation.TheVariants as denotes
-use Rattle.java_exprs.specs.declared.typed.Form.{Form}
 use Rattle.java_exprs.specs.declared.typed.Form.TheVariants as form
 use Rattle.java_exprs.specs.declared.through.Through.TheVariants as through
-use Rattle.java_exprs.specs.Attr.{Attr, value_type, unless, only_if, is_nothing, nothing_11, prefix_faults, value_faults, values_faults}
+use Rattle.java_exprs.specs.Attr.{Attr, value_type, unless, only_if, is_nothing, prefix_faults, value_faults, values_faults}
 use Rattle.java_exprs.specs.Types.{is_printed}
-use Rattle.java_exprs.specs.Members.{Naming, Calling, naming_behind, calling_behind, object_class}
+use Rattle.java_exprs.specs.Members.{Calling, naming_behind, calling_behind}
 use Rattle.java_exprs.specs.Denotes.{member_denotes, member_form, call_denotes, library_field, library_method, text_method, length_name, equals_name, out_name, println_name, is_print}
 use Rattle.java_exprs.specs.Resolved.{cores, first_core, member_core, call_core, library_core, text_core}
 use Rattle.java_exprs.specs.Rules.{wants, wants_type, has_members, is_array, naming_10, naming_11, naming_14, calling_10, calling_11, calling_12, calling_14, field_10, method_10, is_text_method, prefix_11, library_11, library_12, text_12, print_12}
 use Rattle.java_exprs.specs.Checks.{attr_at}
-use Rattle.typing_law.specs.Means.{StandsFor, HasType, Means, MeansForm, IsRight, prints}
+use Rattle.typing_law.specs.Means.{HasType, Means, MeansForm}
 use Rattle.typing_law.specs.Agrees.{Agrees, AgreesOnScope}
 use Rattle.typing_law.proofs.TypeFacts as facts
 use Rattle.typing_law.proofs.NoFaults.{empty_parts, unless_empty, only_if_empty, no_place}
 use Rattle.typing_law.proofs.Standing.{and_l, and_r, exact, has_string, has_printed}
 use Rattle.typing_law.proofs.Parts.{Holds, IsValue, value_part, prefix_part, wanted}
-use Rattle.typing_law.proofs.Nodes.{BreaksNone, breaks_none, has_type_int, has_type_bool, where_holds}
+use Rattle.typing_law.proofs.Nodes.{breaks_none, has_type_int, has_type_bool, where_holds}
 use Rattle.typing_law.proofs.Arguments.{AllHold, fits_wanted}
 use Rattle.typing_law.proofs.Names as names
 

@@ -1,19 +1,14 @@
 -- Every expression that breaks no rule is well typed.
-use Rattle.std.proofs.Common.{◌≡◌, ◌∙◌, ℕ, IsTrue, List, [], ◌∷◌, map, Option, Some, None, refl, subst, sym, ap}
-use Rattle.core_tree.specs.declared.ty.Ty.{Ty}
+use Rattle.std.proofs.Common.{◌≡◌, List, [], ◌∷◌, map, subst, sym}
 use Rattle.core_tree.specs.declared.program.Program.{Program}
-use Rattle.core_tree.specs.Types.{is_object}
 use Rattle.core_tree.specs.Typing.{Scope as CoreScope}
-use Rattle.java_syntax.specs.declared.name.TypeTree.{TypeTree}
 use Rattle.java_syntax.specs.declared.expression.Expr.{Expr}
 use Rattle.java_syntax.specs.declared.expression.Expr.TheOpen.{Expr-F}
 use Rattle.java_syntax.specs.declared.expression.Expr.TheViews.{roll-Expr}
-use Rattle.java_syntax.specs.declared.expression.Expr.TheFolds.{fold-Expr, fold-roll-Expr, ind-Expr, map-Expr}
+use Rattle.java_syntax.specs.declared.expression.Expr.TheFolds.{fold-roll-Expr, ind-Expr, map-Expr}
 use Rattle.java_names.specs.declared.scope.Scope.{Scope}
 use Rattle.java_exprs.specs.declared.environment.Environment.{Environment}
-use Rattle.java_exprs.specs.Attr.{Attr, Node}
-use Rattle.java_exprs.specs.Lookups.{type_named}
-use Rattle.java_exprs.specs.Rules.{rule_15}
+use Rattle.java_exprs.specs.Attr.{Attr}
 use Rattle.java_exprs.specs.Checks.{attr, attr_at}
 use Rattle.typing_law.specs.Agrees.{Agrees, AgreesOnScope}
 use Rattle.typing_law.proofs.Parts.{Holds}

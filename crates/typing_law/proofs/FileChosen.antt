@@ -1,15 +1,13 @@
 -- A call on an object is typed by the method that is looked up.
-use Rattle.std.proofs.Common.{◌≡◌, ◌∙◌, ⊎_elim, ◌⊎◌, inl, inr, ℕ, zero, suc, ◌+◌, ◌<◌, ◌≤◌, Bool, true, false, not, ◌||◌, ◌&&◌, ◌==◌, IsTrue, List, [], ◌∷◌, ◌++◌, length, map, Option, Some, None, option_map, is_some, slice_get, get_or, refl, subst, sym, ap, arith, if◌then◌else◌}
+use Rattle.std.proofs.Common.{◌≡◌, ◌∙◌, ℕ, zero, suc, ◌+◌, ◌<◌, ◌≤◌, Bool, true, false, not, ◌&&◌, ◌==◌, IsTrue, List, [], ◌∷◌, length, Option, Some, None, option_map, is_some, slice_get, refl, subst, sym, ap, arith, if◌then◌else◌}
 use Rattle.std.specs.Prelude.{option_and_then, position, unwrap_or}
-use Rattle.std.specs.List.{list_any, list_all, flat_map, range_with_len}
+use Rattle.std.specs.List.{list_any, range_with_len}
 use Rattle.std.specs.Option.{option_map_or}
-use Rattle.std.proofs.lemmas.Option.{none-some, same_Some, option_and_then_some, slice_get-map}
-use Rattle.std.proofs.lemmas.Bool.{false≢true, eqb-true, eq-eqb, and_from}
+use Rattle.std.proofs.lemmas.Option.{none-some, option_and_then_some, slice_get-map}
+use Rattle.std.proofs.lemmas.Bool.{false≢true, eq-eqb, and_from}
 use Rattle.std.proofs.lemmas.List.{length-map}
 use Rattle.std.proofs.lemmas.List.Quantifiers.{position-Some}
 use Rattle.core_tree.specs.declared.ty.Ty.TheVariants as ty
-use Rattle.core_tree.specs.declared.program.Method.{Method}
-use Rattle.core_tree.specs.Types.{is_subclass}
 use Rattle.core_tree.specs.Typing.{PartType, all_fit, call_type, chosen_type, is_throwable, where_true}
 use Rattle.core_tree.specs.Typing as typing
 use Rattle.java_syntax.specs.declared.class.FileTree.{FileTree}
@@ -25,7 +23,7 @@ use Rattle.java_names.specs.declared.symbol.MethodSymbol.{MethodSymbol}
 use Rattle.java_names.specs.declared.symbol.Selector.{Selector}
 use Rattle.java_names.specs.BuiltIn.{in_file}
 use Rattle.java_names.specs.Chosen.{picked, first_picked, methods_at, chosen_method, chosen_of}
-use Rattle.java_names.specs.Lookups.{class_at, line_of, is_below, nearest, method_in, method_at}
+use Rattle.java_names.specs.Lookups.{line_of, is_below, nearest, method_in, method_at}
 use Rattle.java_names.specs.Numbers.{first_numbers}
 use Rattle.java_names.specs.Selectors.{same_selector, selector_of, message_selector}
 use Rattle.java_names.specs.Symbols.{class_symbol, method_symbol, method_symbols, selectors_in}
@@ -36,8 +34,8 @@ use Rattle.java_types.specs.Files.{of_members, core_class}
 use Rattle.java_names.proofs.NumberingLemmas.{is_some-position}
 use Rattle.typing_law.proofs.Nodes.{where_holds}
 use Rattle.typing_law.proofs.Tables.{numbers_at, env_with, program_with, class_symbol_at, class_core_at, same_below}
-use Rattle.typing_law.proofs.FileMakers.{shifted, found_by}
-use Rattle.typing_law.proofs.FileMethods.{MethodFound, method_symbol_at, IsGetMessage, IsOfFile, all_names, all_selectors, first_method, symbols}
+use Rattle.typing_law.proofs.FileMakers.{shifted}
+use Rattle.typing_law.proofs.FileMethods.{method_symbol_at, IsGetMessage, IsOfFile, all_names, all_selectors, first_method, symbols}
 use Rattle.typing_law.proofs.FileSelectors.{same_parts, picks_none, picks_first, nearest_same, has_selector, first_selector}
 
 -- ---- lists

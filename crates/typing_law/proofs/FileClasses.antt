@@ -1,5 +1,5 @@
 -- The rows of a file's classes, and what their declarations break.
-use Rattle.std.proofs.Common.{◌≡◌, ◌∙◌, ℕ, zero, suc, ◌+◌, ◌-◌, ◌≤◌, Bool, ◌||◌, IsTrue, List, [], ◌∷◌, ◌++◌, length, map, Option, Some, None, option_map, slice_get, refl, subst, sym, ap, arith, nat_lt}
+use Rattle.std.proofs.Common.{◌≡◌, ◌∙◌, ℕ, zero, suc, ◌+◌, ◌-◌, ◌≤◌, ◌||◌, IsTrue, List, [], ◌∷◌, ◌++◌, length, Option, Some, None, option_map, slice_get, refl, subst, sym, ap, arith, nat_lt}
 use Rattle.std.specs.List.{flat_map, list_all}
 use Rattle.std.proofs.lemmas.Option.{none-some, same_Some}
 use Rattle.std.proofs.lemmas.Bool.{and_from, or_left, or_right}
@@ -9,12 +9,10 @@ use Rattle.java_syntax.specs.declared.name.TypeTree.{TypeTree}
 use Rattle.typing_law.proofs.TypeFacts as facts
 use Rattle.core_tree.specs.declared.program.Program.{Program}
 use Rattle.core_tree.specs.WellTyped.{is_value}
-use Rattle.java_syntax.specs.declared.fault.Fault.{Fault}
 use Rattle.java_syntax.specs.declared.class.Member.{Member}
 use Rattle.java_syntax.specs.declared.class.Member.TheVariants as member
 use Rattle.java_syntax.specs.declared.class.ClassTree.{ClassTree}
 use Rattle.java_syntax.specs.declared.class.ParamTree.{ParamTree}
-use Rattle.class_table.specs.declared.declaration.Declaration.{Declaration}
 use Rattle.class_table.specs.declared.row.ClassRow.{ClassRow}
 use Rattle.class_table.specs.declared.row.MakerRow.{MakerRow}
 use Rattle.class_table.specs.declared.row.MethodRow.{MethodRow}
@@ -65,7 +63,7 @@ tree_at ks c row least is =
     let place : 18 + (c - 18) ≡ c = omega arith in
     let from : 0 + c ≡ c = omega arith in
     let there = found_both (declaration (class_names ks) (18 + (c - 18))) (row_of (declared_of ks) (0 + c)) (slice_get ks (c - 18)) row
-        (ap (option_map (row_of (declared_of ks) (0 + c))) (sym (behind ks (c - 18)) ∙ ap (slice_get (declared_of ks)) shape) ∙ sym (row_at (declared_of ks) 0 (declared_of ks) c) ∙ is) in
+    (ap (option_map (row_of (declared_of ks) (0 + c))) (sym (behind ks (c - 18)) ∙ ap (slice_get (declared_of ks)) shape) ∙ sym (row_at (declared_of ks) 0 (declared_of ks) c) ∙ is) in
     record { tree = there.0; place = there.1; row_is = there.2 ∙ ap (λ m. row_of (declared_of ks) (0 + c) (declaration (class_names ks) m there.0)) place ∙ ap (λ m. row_of (declared_of ks) m (declaration (class_names ks) c there.0)) from }
 
 -- ---- faults of declarations

@@ -1,19 +1,17 @@
 -- Lines of a file's classes, and methods that are found in a superclass.
-use Rattle.std.proofs.Common.{◌≡◌, ◌∙◌, ⊎_elim, ◌⊎◌, inl, inr, ℕ, zero, suc, ◌+◌, ◌<◌, ◌≤◌, Bool, true, false, not, ◌||◌, ◌&&◌, ◌==◌, IsTrue, List, [], ◌∷◌, length, Option, Some, None, option_map, slice_get, refl, subst, sym, ap, arith}
-use Rattle.std.specs.Prelude.{option_and_then}
+use Rattle.std.proofs.Common.{◌≡◌, ◌∙◌, ⊎_elim, ℕ, zero, suc, ◌+◌, ◌<◌, ◌≤◌, Bool, true, false, not, ◌||◌, ◌&&◌, ◌==◌, IsTrue, List, [], ◌∷◌, length, Option, Some, None, option_map, slice_get, refl, subst, sym, ap, arith}
 use Rattle.std.specs.List.{list_any}
 use Rattle.std.specs.Option.{option_map_or}
 use Rattle.std.proofs.lemmas.Option.{none-some, same_Some, option_and_then_some}
-use Rattle.std.proofs.lemmas.Bool.{false≢true, eqb-true, or_cases, or_right, and_from}
-use Rattle.core_tree.specs.declared.ty.Ty.TheVariants as ty
+use Rattle.std.proofs.lemmas.Bool.{false≢true, eqb-true, or_right, and_from}
 use Rattle.core_tree.specs.Types.{is_subclass}
-use Rattle.core_tree.specs.Typing.{PartType, all_fit, call_type, is_of_superclass, is_throwable}
+use Rattle.core_tree.specs.Typing.{all_fit, call_type, is_of_superclass, is_throwable}
 use Rattle.java_syntax.specs.declared.class.FileTree.{FileTree}
 use Rattle.class_table.specs.declared.row.ClassRow.{ClassRow}
 use Rattle.class_table.specs.declared.row.ClassTable.{ClassTable}
 use Rattle.class_table.specs.Members.{is_static}
 use Rattle.class_table.specs.Table.{table_of}
-use Rattle.class_table.specs.TableFacts.{IsTable, IsRow, line_above}
+use Rattle.class_table.specs.TableFacts.{IsTable, line_above}
 use Rattle.java_names.specs.declared.symbol.MethodSymbol.{MethodSymbol}
 use Rattle.java_names.specs.Lookups.{class_at, line_of, is_below}
 use Rattle.java_names.specs.Numbers.{first_numbers}
@@ -89,8 +87,13 @@ module _ (tree : FileTree) (constants : List (ℕ × Option Literal)) (none : of
       let parent : row.0.parent ≡ Some b = ap (λ k. k.parent) (sym row.2) ∙ is_parent in
       let facts = is_table.rows c row.0 row.1 in
       let above = some_within table.classes b (facts.superclass b parent) in
-      record { row = row.0; is_row = row.1; above = above.0; is_above = above.1;
-        line = facts.line ∙ ap (λ q. c ∷ line_above table.classes q) parent ∙ ap (λ found. c ∷ option_map_or (λ row. row.line) found []) above.1 })
+      record {
+        row = row.0;
+        is_row = row.1;
+        above = above.0;
+        is_above = above.1;
+        line = facts.line ∙ ap (λ q. c ∷ line_above table.classes q) parent ∙ ap (λ found. c ∷ option_map_or (λ row. row.line) found []) above.1;
+      })
     where
       some_within : (xs : List ClassRow) (k : ℕ) → k < length xs → (x : ClassRow) × (slice_get xs k ≡ Some x)
       some_within [] k below = absurd (none_below k below)
@@ -153,9 +156,9 @@ module _ (tree : FileTree) (constants : List (ℕ × Option Literal)) (none : of
                 ap (λ n. call_type p (is_of_superclass p c) arguments (slice_get p.methods n)) (sym (same_Some _ _ (sym number ∙ is_k)))
                 ∙ ap (call_type p (is_of_superclass p c) arguments) it.program.found
                 ∙ where_holds (is_of_superclass p c method && all_fit p method.params arguments) method.answer
-                    (and_from (is_of_superclass p c method) (all_fit p method.params arguments)
-                    (and_from method.on_object (is_subclass p.classes c method.owner && not (method.owner == c)) on_object (and_from (is_subclass p.classes c method.owner) (not (method.owner == c)) subclass other))
-                    (ap (λ ts. all_fit p ts arguments) params ∙ fit))
+                (and_from (is_of_superclass p c method) (all_fit p method.params arguments)
+                (and_from method.on_object (is_subclass p.classes c method.owner && not (method.owner == c)) on_object (and_from (is_subclass p.classes c method.owner) (not (method.owner == c)) subclass other))
+                (ap (λ ts. all_fit p ts arguments) params ∙ fit))
                 ∙ ap Some answer;
             built_in = λ is_none. absurd (none-some (first_method tree constants none it.class + it.found.place) (sym is_none ∙ number));
           }

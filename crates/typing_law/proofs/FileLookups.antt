@@ -1,5 +1,5 @@
 -- Every method that is looked up is as the program has it.
-use Rattle.std.proofs.Common.{◌≡◌, ◌∙◌, ⊎_elim, ◌⊎◌, ℕ, Bool, true, false, ◌||◌, ◌&&◌, IsTrue, List, [], length, Option, Some, None, slice_get, refl, subst, sym, ap, ◌≤◌}
+use Rattle.std.proofs.Common.{◌≡◌, ◌∙◌, ⊎_elim, ℕ, ◌||◌, IsTrue, List, [], length, Option, Some, slice_get, subst, sym, ap, ◌≤◌}
 use Rattle.std.specs.Prelude.{nat_eq}
 use Rattle.std.specs.List.{list_all}
 use Rattle.std.proofs.lemmas.Bool.{false≢true, eqb-true, or_left}

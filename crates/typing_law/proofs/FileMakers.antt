@@ -1,18 +1,16 @@
 -- The constructors that a file's symbols name are those of its program.
-use Rattle.std.proofs.Common.{◌≡◌, ◌∙◌, ⊎_elim, ◌⊎◌, inl, inr, ℕ, zero, suc, ◌+◌, ◌-◌, ◌<◌, ◌≤◌, Bool, true, false, not, ◌==◌, nat_lt, IsTrue, List, [], ◌∷◌, ◌++◌, length, map, Option, Some, None, option_map, slice_get, refl, subst, sym, ap, arith, if◌then◌else◌}
+use Rattle.std.proofs.Common.{◌≡◌, ◌∙◌, ℕ, zero, suc, ◌+◌, ◌-◌, ◌≤◌, false, IsTrue, List, [], ◌∷◌, length, map, Option, Some, None, option_map, slice_get, refl, subst, sym, ap, arith, if◌then◌else◌}
 use Rattle.std.specs.Prelude.{option_and_then, nat_eq, position}
 use Rattle.std.specs.List.{flat_map, list_all}
 use Rattle.std.proofs.lemmas.Option.{none-some, same_Some, option_and_then_some, slice_get-map, get_or_from_slice_get}
-use Rattle.std.proofs.lemmas.Bool.{false≢true, eqb-true, ltb-true, le-ltb}
+use Rattle.std.proofs.lemmas.Bool.{eqb-true}
 use Rattle.std.proofs.lemmas.List.Quantifiers.{position-Some}
-use Rattle.core_tree.specs.declared.ty.Ty.{Ty}
-use Rattle.core_tree.specs.declared.ty.Ty.TheVariants as ty
 use Rattle.core_tree.specs.declared.program.Maker.{Maker}
 use Rattle.java_syntax.specs.declared.class.Member.{Member}
 use Rattle.java_syntax.specs.declared.class.Member.TheVariants as member
 use Rattle.class_table.specs.declared.row.MakerRow.{MakerRow}
 use Rattle.class_table.specs.Names.{Name}
-use Rattle.class_table.specs.Members.{makers_in, maker_row, types_of}
+use Rattle.class_table.specs.Members.{makers_in, maker_row}
 use Rattle.java_names.specs.declared.numbers.Numbers.{Numbers}
 use Rattle.java_names.specs.declared.symbol.MakerSymbol.{MakerSymbol}
 use Rattle.java_names.specs.BuiltIn.{is_built_in}
@@ -22,31 +20,22 @@ use Rattle.java_names.specs.Types.{declared_type, declared_types}
 use Rattle.class_table.specs.declared.row.ClassRow.{ClassRow}
 use Rattle.java_exprs.specs.declared.environment.Environment.{Environment}
 use Rattle.java_types.specs.Bodies.{core_maker}
-use Rattle.java_types.specs.Files.{own_maker, of_members, of_made, is_maker, where_none, first_class}
-use Rattle.std.proofs.lemmas.List.{length-map, length-append, append_assoc}
+use Rattle.java_types.specs.Files.{own_maker, of_members, of_made}
+use Rattle.std.proofs.lemmas.List.{length-map}
 use Rattle.core_tree.specs.WellTyped.{is_value}
-use Rattle.java_syntax.specs.declared.class.ClassTree.{ClassTree}
 use Rattle.java_syntax.specs.declared.class.FileTree.{FileTree}
-use Rattle.class_table.specs.declared.declaration.Declaration.{Declaration}
 use Rattle.class_table.specs.declared.row.ClassTable.{ClassTable}
-use Rattle.class_table.specs.Names.{class_names}
-use Rattle.class_table.specs.Declarations.{declaration, declarations, declared_of}
-use Rattle.class_table.specs.Table.{row_of, rows_from, table_of}
-use Rattle.java_names.specs.declared.symbol.ClassSymbol.{ClassSymbol}
-use Rattle.java_names.specs.BuiltIn.{needs_maker, in_file}
-use Rattle.java_names.specs.Lookups.{class_at, maker_in}
-use Rattle.java_names.specs.Numbers.{first_numbers, written_in, written_from}
-use Rattle.java_names.specs.Selectors.{selectors_of}
-use Rattle.java_names.specs.Symbols.{class_symbol, makers_of, written_makers, made_makers, names_of, symbols_of}
+use Rattle.class_table.specs.Table.{table_of}
+use Rattle.java_names.specs.Numbers.{first_numbers}
+use Rattle.java_names.specs.Symbols.{names_of}
 use Rattle.java_exprs.specs.declared.literal.Literal.{Literal}
-use Rattle.java_exprs.specs.Lookups.{maker_of}
 use Rattle.java_types.specs.Bodies.{made_maker}
 use Rattle.java_types.specs.Declarations.{declaration_faults}
 use Rattle.typing_law.specs.Agrees.{AgreesOnMaker}
 use Rattle.typing_law.proofs.Scopes.{get_before}
-use Rattle.typing_law.proofs.Tables.{numbers_at, env_with, program_with, class_symbol_at, class_within}
-use Rattle.typing_law.proofs.Numbered.{stands_at, get_behind, not_built_in}
-use Rattle.typing_law.proofs.FileClasses.{HasTree, tree_at, of_class, maker_values}
+use Rattle.typing_law.proofs.Tables.{numbers_at, env_with, program_with, class_within}
+use Rattle.typing_law.proofs.Numbered.{stands_at}
+use Rattle.typing_law.proofs.FileClasses.{tree_at, of_class, maker_values}
 
 -- the number of the n-th of some members, the first of which has a number
 unfoldable pub shifted : Option ℕ → ℕ → Option ℕ
@@ -131,10 +120,11 @@ module _ (tree : FileTree) (constants : List (ℕ × Option Literal)) (none : of
         same_arity = ap (λ s. length s.params) found.3 ∙ length-map found.1.params (declared_type (names_of table.classes)) ∙ found.4;
         params = subst (λ s. IsTrue (list_all (is_value (program_with table tree constants)) s.params)) (sym found.3) values;
         of_file = λ k is_k.
-            let same : number + found.0 ≡ k = same_Some _ _ (sym (ap (λ s. s.number) found.3) ∙ is_k) in
-            (stands.0,
-            ap (slice_get (program_with table tree constants).makers) (sym same) ∙ get_before (of_members (own_maker env) 18 tree.classes) (of_made (λ c k. made_maker env c ∷ []) 18 tree.classes) (number + found.0) stands.0 stands.1,
-            stands.2.1 ∙ ap (λ s. s.params) (sym found.3),
-            stands.2.0);
+            let same : number + found.0 ≡ k = same_Some _ _ (sym (ap (λ s. s.number) found.3) ∙ is_k) in (
+              stands.0,
+              ap (slice_get (program_with table tree constants).makers) (sym same) ∙ get_before (of_members (own_maker env) 18 tree.classes) (of_made (λ c k. made_maker env c ∷ []) 18 tree.classes) (number + found.0) stands.0 stands.1,
+              stands.2.1 ∙ ap (λ s. s.params) (sym found.3),
+              stands.2.0,
+            );
         built_in = λ is_none. absurd (none-some (number + found.0) (sym is_none ∙ ap (λ s. s.number) found.3));
       }

@@ -1,11 +1,11 @@
 -- A `getMessage` that a class below Throwable declares has the parameters and the result of the built-in one (JLS 8.4.8).
-use Rattle.std.proofs.Common.{◌≡◌, ◌∙◌, ⊎_elim, ◌⊎◌, inl, inr, ℕ, zero, suc, ◌+◌, ◌<◌, ◌≤◌, Bool, true, false, not, ◌||◌, ◌&&◌, ◌==◌, IsTrue, List, [], ◌∷◌, length, map, drop, codes, Option, Some, None, option_map, slice_get, get_or, refl, subst, sym, ap, arith, if◌then◌else◌}
-use Rattle.std.specs.Prelude.{option_and_then, nat_eq, position, unwrap_or, find}
+use Rattle.std.proofs.Common.{◌≡◌, ◌∙◌, ⊎_elim, ◌⊎◌, inl, inr, ℕ, zero, suc, ◌+◌, ◌≤◌, Bool, true, false, not, ◌||◌, ◌&&◌, ◌==◌, IsTrue, List, [], ◌∷◌, length, drop, codes, Option, Some, None, option_map, slice_get, get_or, refl, subst, sym, ap, arith, if◌then◌else◌}
+use Rattle.std.specs.Prelude.{nat_eq, position, unwrap_or, find}
 use Rattle.std.specs.Bool.{beq}
-use Rattle.std.specs.List.{list_any, list_all, flat_map}
+use Rattle.std.specs.List.{list_any, list_all}
 use Rattle.std.specs.Option.{option_map_or}
 use Rattle.std.specs.Cmp.Lexicographic.{same_text}
-use Rattle.std.proofs.lemmas.Option.{none-some, same_Some}
+use Rattle.std.proofs.lemmas.Option.{same_Some}
 use Rattle.std.proofs.lemmas.Bool.{false≢true, eqb-true, or_left, or_right}
 use Rattle.std.proofs.lemmas.List.Quantifiers.{position-Some}
 use Rattle.core_tree.specs.declared.ty.Ty.TheVariants as ty
@@ -24,11 +24,11 @@ use Rattle.class_table.specs.BuiltIn.{built_in, throwable, get_message, string_t
 use Rattle.class_table.specs.Declarations.{declared_of}
 use Rattle.class_table.specs.Faults.{Clear}
 use Rattle.class_table.specs.Index.{signature_of}
-use Rattle.class_table.specs.Members.{is_static, is_private, same_base, same_type, same_types, same_answer}
+use Rattle.class_table.specs.Members.{is_static, is_private, same_base, same_types, same_answer}
 use Rattle.class_table.specs.Names.{Name, class_names, same_name}
 use Rattle.class_table.specs.Rules.{Breaks, is_allowed, may_override, method_called, is_wrong_over}
-use Rattle.class_table.specs.Table.{row_of, rows_from, table_of}
-use Rattle.class_table.specs.TableFacts.{IsTable, IsRow, line_above}
+use Rattle.class_table.specs.Table.{row_of, table_of}
+use Rattle.class_table.specs.TableFacts.{IsTable, line_above}
 use Rattle.java_names.specs.declared.symbol.MethodSymbol.{MethodSymbol}
 use Rattle.java_names.specs.declared.symbol.Selector.{Selector}
 use Rattle.java_names.specs.Lookups.{is_below}
@@ -43,7 +43,7 @@ use Rattle.typing_law.proofs.Tables.{row_at, env_with, program_with}
 use Rattle.typing_law.proofs.FileMakers.{shifted, found_by}
 use Rattle.typing_law.proofs.FileMethods.{IsOfFile, all_names, all_selectors, symbols}
 use Rattle.typing_law.proofs.FileSelectors.{has_selector, first_selector}
-use Rattle.typing_law.proofs.FileLines.{on, line_cases, line_is, throwable_below}
+use Rattle.typing_law.proofs.FileLines.{line_cases, line_is, throwable_below}
 
 -- a result that is spelled as String
 string_answer : (names : List Name) (t : Option TypeTree) → same_answer t (Some string_type) ≡ true → answer_type names t ≡ ty.Text
@@ -172,8 +172,17 @@ module _ (tree : FileTree) (constants : List (ℕ × Option Literal)) (none : of
       cases : (b : Bool) → is_wrong_over (class_names tree.classes) (declared_of tree.classes) y 1 ≡ b → same_answer y.answer (Some string_type) ≡ true
       cases true wrong = absurd (clear.none (record { rule = 6; at = y.at }) (inr (inr (inr (inr (inr (inl (record {
         rule_is = refl;
-        holds = record { number = d; element = declared.0; found = declared.1; holds = record { number = i; element = y; found = ap (λ r. slice_get r.methods i) (sym declared.2) ∙ is_y;
-          holds = (any_at (is_wrong_over (class_names tree.classes) (declared_of tree.classes) y) (superclasses (declared_of tree.classes) d) 1 above wrong, refl) } };
+        holds = record {
+          number = d;
+          element = declared.0;
+          found = declared.1;
+          holds = record {
+            number = i;
+            element = y;
+            found = ap (λ r. slice_get r.methods i) (sym declared.2) ∙ is_y;
+            holds = (any_at (is_wrong_over (class_names tree.classes) (declared_of tree.classes) y) (superclasses (declared_of tree.classes) d) 1 above wrong, refl);
+          };
+        };
       }))))))))
       cases false right = of_override (may_override (class_names tree.classes) (declared_of tree.classes) y get_message) refl (sym (ap (λ found. option_map_or (λ a. not (may_override (class_names tree.classes) (declared_of tree.classes) y a)) found false) (throwable_called tree y same)) ∙ right)
         where
@@ -199,7 +208,7 @@ module _ (tree : FileTree) (constants : List (ℕ × Option Literal)) (none : of
       let zero_is : has.0 ≡ 0 = eqb-true has.0 0 (ap (λ s. unwrap_or s 0 == 0) (sym selector) ∙ and_l (unwrap_or m.selector 0 == 0) (is_throwable (program_with table tree constants) c) is) in
       let first = first_selector table.classes in
       let same : same_selector (selector_of y) message_selector ≡ true =
-          ap (λ all. same_selector (selector_of y) (get_or all 0 message_selector)) (sym first.1) ∙ ap (λ k. same_selector (selector_of y) (get_or (all_selectors tree constants none) k message_selector)) (sym zero_is) ∙ (position-Some (same_selector (selector_of y)) (all_selectors tree constants none) has.0 message_selector has.1).1 in
+      ap (λ all. same_selector (selector_of y) (get_or all 0 message_selector)) (sym first.1) ∙ ap (λ k. same_selector (selector_of y) (get_or (all_selectors tree constants none) k message_selector)) (sym zero_is) ∙ (position-Some (same_selector (selector_of y)) (all_selectors tree constants none) has.0 message_selector has.1).1 in
       let below : IsTrue (is_below (symbols tree constants none) c 1) = sym (throwable_below tree constants none is_table short c) ∙ and_r (unwrap_or m.selector 0 == 0) (is_throwable (program_with table tree constants) c) is in
       let row = row_there c 1 below in
       let under = below_throwable c row.0 it.class it.least row.1 (subst (stands it.class) (line_is tree constants none is_table short c row.0 row.1) it.below) (subst (stands 1) (line_is tree constants none is_table short c row.0 row.1) below) in

@@ -1,16 +1,13 @@
 -- The methods that a file's symbols name are those of its program.
-use Rattle.std.proofs.Common.{◌≡◌, ◌∙◌, ⊎_elim, ◌⊎◌, inl, inr, ℕ, zero, suc, ◌+◌, ◌-◌, ◌<◌, ◌≤◌, Bool, true, false, not, ◌||◌, ◌&&◌, ◌==◌, nat_lt, IsTrue, List, [], ◌∷◌, ◌++◌, length, map, Option, Some, None, option_map, slice_get, refl, subst, sym, ap, arith, if◌then◌else◌}
+use Rattle.std.proofs.Common.{◌≡◌, ◌∙◌, ⊎_elim, ◌⊎◌, inl, inr, ℕ, zero, suc, ◌+◌, ◌-◌, ◌<◌, ◌≤◌, Bool, true, false, not, ◌==◌, IsTrue, List, [], ◌∷◌, length, Option, Some, None, option_map, slice_get, refl, subst, sym, ap, arith, if◌then◌else◌}
 use Rattle.std.specs.Prelude.{option_and_then, nat_eq, position, unwrap_or}
-use Rattle.std.specs.List.{flat_map, list_all, list_any}
+use Rattle.std.specs.List.{flat_map, list_any}
 use Rattle.std.specs.Option.{option_or}
 use Rattle.std.proofs.lemmas.Option.{none-some, same_Some, option_and_then_some, slice_get-map, get_or_from_slice_get}
-use Rattle.std.proofs.lemmas.Bool.{false≢true, eqb-true, eq-eqb, ltb-true, ltb-false, or_left, or_right}
-use Rattle.std.proofs.lemmas.List.{length-map}
+use Rattle.std.proofs.lemmas.Bool.{eqb-true, eq-eqb, ltb-true, ltb-false, or_left, or_right}
 use Rattle.std.proofs.lemmas.List.Quantifiers.{position-Some}
 use Rattle.core_tree.specs.declared.ty.Ty.TheVariants as ty
 use Rattle.core_tree.specs.declared.program.Method.{Method}
-use Rattle.core_tree.specs.Types.{is_void}
-use Rattle.core_tree.specs.WellTyped.{is_value}
 use Rattle.java_syntax.specs.declared.class.Member.{Member}
 use Rattle.java_syntax.specs.declared.class.Member.TheVariants as member
 use Rattle.java_syntax.specs.declared.class.ClassTree.{ClassTree}
@@ -23,9 +20,8 @@ use Rattle.class_table.specs.BuiltIn.{built_in, get_message, string_type}
 use Rattle.class_table.specs.Declarations.{declared_of}
 use Rattle.class_table.specs.Members.{methods_in, method_row, is_static}
 use Rattle.class_table.specs.Names.{Name, same_name}
-use Rattle.class_table.specs.Table.{row_of, rows_from, table_of}
+use Rattle.class_table.specs.Table.{row_of, table_of}
 use Rattle.java_names.specs.declared.numbers.Numbers.{Numbers}
-use Rattle.java_names.specs.declared.symbol.ClassSymbol.{ClassSymbol}
 use Rattle.java_names.specs.declared.symbol.MethodSymbol.{MethodSymbol}
 use Rattle.java_names.specs.declared.symbol.Selector.{Selector}
 use Rattle.java_names.specs.declared.symbol.Symbols.{Symbols}
@@ -33,8 +29,8 @@ use Rattle.java_names.specs.BuiltIn.{is_built_in, in_file}
 use Rattle.java_names.specs.Lookups.{class_at, line_of, is_below, nearest, method_in, method_at}
 use Rattle.java_names.specs.Numbers.{made_for, numbers_after, first_numbers}
 use Rattle.java_names.specs.Selectors.{same_selector, selector_of, selectors_of}
-use Rattle.java_names.specs.Symbols.{class_symbol, following, method_symbol, method_symbols, methods_of, selectors_in, names_of, symbols_of}
-use Rattle.java_names.specs.Types.{declared_type, declared_types, answer_type}
+use Rattle.java_names.specs.Symbols.{class_symbol, following, method_symbol, method_symbols, selectors_in, names_of, symbols_of}
+use Rattle.java_names.specs.Types.{declared_types, answer_type}
 use Rattle.java_exprs.specs.declared.environment.Environment.{Environment}
 use Rattle.java_exprs.specs.declared.literal.Literal.{Literal}
 use Rattle.java_exprs.specs.Lookups.{method_of}
@@ -42,11 +38,10 @@ use Rattle.java_types.specs.Bodies.{core_method}
 use Rattle.java_types.specs.Declarations.{declaration_faults}
 use Rattle.java_types.specs.Files.{own_method, of_members}
 use Rattle.typing_law.specs.Agrees.{AgreesOnStatic}
-use Rattle.typing_law.proofs.TypeFacts as facts
 use Rattle.typing_law.proofs.Standing.{and_r}
 use Rattle.typing_law.proofs.Tables.{row_at, numbers_at, env_with, program_with, class_symbol_at, class_within}
 use Rattle.typing_law.proofs.Numbered.{stands_at}
-use Rattle.typing_law.proofs.FileClasses.{HasTree, tree_at, of_class, HasMethodValues, method_values}
+use Rattle.typing_law.proofs.FileClasses.{tree_at, of_class, HasMethodValues, method_values}
 use Rattle.typing_law.proofs.FileMakers.{shifted, found_by}
 
 -- ---- the methods of a class
@@ -81,8 +76,14 @@ method_found names selectors d number ms key m is =
     option_and_then_some (λ n. slice_get (method_symbols names selectors d number ms) n) (position (same_selector key) (selectors_in ms)) m is (λ n is_n is_m.
     let y = found_by (method_symbol names selectors d (shifted number n)) (slice_get ms n) m (sym (method_symbol_at names selectors d number ms n) ∙ is_m) in
     let there : slice_get (selectors_in ms) n ≡ Some (selector_of y.0) = slice_get-map selector_of ms n ∙ ap (option_map selector_of) y.1 in
-    record { place = n; row = y.0; first = is_n; is_row = y.1; is_symbol = y.2;
-      same = ap (same_selector key) (sym (get_or_from_slice_get (selectors_in ms) n (selector_of y.0) key there)) ∙ (position-Some (same_selector key) (selectors_in ms) n key is_n).1 })
+    record {
+      place = n;
+      row = y.0;
+      first = is_n;
+      is_row = y.1;
+      is_symbol = y.2;
+      same = ap (same_selector key) (sym (get_or_from_slice_get (selectors_in ms) n (selector_of y.0) key there)) ∙ (position-Some (same_selector key) (selectors_in ms) n key is_n).1;
+    })
 
 -- ---- the methods of the file by their numbers
 
@@ -176,8 +177,12 @@ module _ (tree : FileTree) (constants : List (ℕ × Option Literal)) (none : of
       let faults = of_class (declaration_faults (env_with table tree [])) 18 tree.classes (d - 18) at.tree none at.place in
       let here : slice_get (methods_in at.tree.members) i ≡ Some y = ap (λ r. slice_get r.methods i) (sym at.row_is) ∙ is_y in
       let stands = stands_at (own_method env) methods_in (λ r. r.methods) (λ n. n.method) (IsMethodOf env) (λ all known c k. refl) method_counts (method_lengths env) (own_found env) tree.classes (first_numbers table.classes) refl d i row y least is_row is_y in
-      record { method = stands.0; found = stands.1; is = stands.2;
-        values = method_values (env_with table tree []) (program_with table tree constants) (class_within table tree constants) d at.tree.members i y (ap (λ n. flat_map (declaration_faults (env_with table tree []) n) at.tree.members) (sym place) ∙ faults) here }
+      record {
+        method = stands.0;
+        found = stands.1;
+        is = stands.2;
+        values = method_values (env_with table tree []) (program_with table tree constants) (class_within table tree constants) d at.tree.members i y (ap (λ n. flat_map (declaration_faults (env_with table tree []) n) at.tree.members) (sym place) ∙ faults) here;
+      }
 
   -- ---- what is looked up
 
@@ -246,7 +251,7 @@ module _ (tree : FileTree) (constants : List (ℕ × Option Literal)) (none : of
       option_and_then_some (λ class. method_in class (record { name = x; arity = arity })) (class_at symbols d) m near.2 (λ class is_class is_m.
       let row = found_by (class_symbol all_names all_selectors (0 + d) (numbers_at 0 (first_numbers table.classes) table.classes d)) (slice_get table.classes d) class (sym (class_symbol_at table tree constants d) ∙ is_class) in
       let looked : look d (in_file d (first_method d)) row.0.methods (record { name = x; arity = arity }) ≡ Some m =
-          subst (λ n. look n (in_file n (first_method d)) row.0.methods (record { name = x; arity = arity }) ≡ Some m) (from_zero d) (ap (λ k. method_in k (record { name = x; arity = arity })) (sym row.2) ∙ is_m) in
+      subst (λ n. look n (in_file n (first_method d)) row.0.methods (record { name = x; arity = arity }) ≡ Some m) (from_zero d) (ap (λ k. method_in k (record { name = x; arity = arity })) (sym row.2) ∙ is_m) in
       cases d near.1 row.0 row.1 looked (is_built_in d) refl)
     where
       cases : (d : ℕ) → IsTrue (is_below symbols c d) → (row : ClassRow) → slice_get table.classes d ≡ Some row → look d (in_file d (first_method d)) row.methods (record { name = x; arity = arity }) ≡ Some m →
@@ -262,7 +267,7 @@ module _ (tree : FileTree) (constants : List (ℕ × Option Literal)) (none : of
           ⊎_elim
           (λ e. absurd (none-some m (subst (λ ms. look d None ms (record { name = x; arity = arity }) ≡ Some m) (methods_are ∙ e) none_looked)))
           (λ e. inl (get_message_found c x arity m (subst (λ n. IsTrue (is_below symbols c n)) e.1 below)
-              (subst (λ n. look n None (get_message ∷ []) (record { name = x; arity = arity }) ≡ Some m) e.1 (subst (λ ms. look d None ms (record { name = x; arity = arity }) ≡ Some m) (methods_are ∙ e.0) none_looked))))
+          (subst (λ n. look n None (get_message ∷ []) (record { name = x; arity = arity }) ≡ Some m) e.1 (subst (λ ms. look d None ms (record { name = x; arity = arity }) ≡ Some m) (methods_are ∙ e.0) none_looked))))
           (built_methods tree.classes d declared.0 (ltb-true d 18 built_in_d) declared.1)
 
   -- a static method is called by its number

@@ -1,18 +1,16 @@
 -- The constructors that are made for classes without one, and those of built-in classes, agree.
-use Rattle.std.proofs.Common.{◌≡◌, ◌∙◌, ⊎_elim, ◌⊎◌, inl, inr, ℕ, zero, suc, ◌+◌, ◌-◌, ◌<◌, ◌≤◌, Bool, true, false, not, ◌&&◌, ◌==◌, nat_lt, IsTrue, List, [], ◌∷◌, ◌++◌, length, map, Option, Some, None, option_map, slice_get, refl, subst, sym, ap, arith, if◌then◌else◌}
+use Rattle.std.proofs.Common.{◌≡◌, ◌∙◌, ⊎_elim, ◌⊎◌, inl, inr, ℕ, zero, suc, ◌+◌, ◌-◌, ◌<◌, ◌≤◌, Bool, true, false, not, ◌&&◌, ◌==◌, IsTrue, List, [], ◌∷◌, ◌++◌, length, Option, Some, None, slice_get, refl, subst, sym, ap, arith, if◌then◌else◌}
 use Rattle.std.specs.Prelude.{option_and_then, nat_eq, position}
 use Rattle.std.specs.List.{flat_map, list_all}
-use Rattle.std.proofs.lemmas.Option.{none-some, same_Some, option_and_then_some, slice_get-map, get_or_from_slice_get}
+use Rattle.std.proofs.lemmas.Option.{none-some, same_Some, option_and_then_some}
 use Rattle.std.proofs.lemmas.Bool.{ltb-true, ltb-false}
-use Rattle.std.proofs.lemmas.List.Quantifiers.{position-Some}
-use Rattle.core_tree.specs.declared.ty.Ty.{Ty}
 use Rattle.core_tree.specs.declared.ty.Ty.TheVariants as ty
 use Rattle.core_tree.specs.declared.program.Maker.{Maker}
 use Rattle.java_syntax.specs.declared.class.Member.{Member}
 use Rattle.java_syntax.specs.declared.class.Member.TheVariants as member
 use Rattle.class_table.specs.declared.row.MakerRow.{MakerRow}
 use Rattle.class_table.specs.Names.{Name}
-use Rattle.class_table.specs.Members.{makers_in, maker_row, types_of}
+use Rattle.class_table.specs.Members.{makers_in, maker_row}
 use Rattle.java_names.specs.declared.numbers.Numbers.{Numbers}
 use Rattle.java_names.specs.declared.symbol.MakerSymbol.{MakerSymbol}
 use Rattle.java_names.specs.BuiltIn.{is_built_in}
@@ -21,8 +19,7 @@ use Rattle.java_names.specs.Symbols.{maker_symbol, maker_symbols, maker_arities,
 use Rattle.java_names.specs.Types.{declared_type, declared_types}
 use Rattle.class_table.specs.declared.row.ClassRow.{ClassRow}
 use Rattle.java_exprs.specs.declared.environment.Environment.{Environment}
-use Rattle.java_types.specs.Bodies.{core_maker}
-use Rattle.java_types.specs.Files.{own_maker, of_members, of_made, is_maker, where_none, first_class}
+use Rattle.java_types.specs.Files.{own_maker, of_members, of_made, is_maker, where_none}
 use Rattle.std.proofs.lemmas.List.{length-map, length-append, append_assoc}
 use Rattle.core_tree.specs.WellTyped.{is_value}
 use Rattle.java_syntax.specs.declared.class.ClassTree.{ClassTree}
@@ -32,10 +29,9 @@ use Rattle.class_table.specs.declared.row.ClassTable.{ClassTable}
 use Rattle.class_table.specs.Names.{class_names}
 use Rattle.class_table.specs.Declarations.{declaration, declarations, declared_of}
 use Rattle.class_table.specs.Table.{row_of, rows_from, table_of}
-use Rattle.java_names.specs.declared.symbol.ClassSymbol.{ClassSymbol}
 use Rattle.java_names.specs.BuiltIn.{needs_maker, in_file}
 use Rattle.java_names.specs.Lookups.{class_at, maker_in}
-use Rattle.java_names.specs.Numbers.{first_numbers, written_in, written_from}
+use Rattle.java_names.specs.Numbers.{first_numbers, written_from}
 use Rattle.java_names.specs.Selectors.{selectors_of}
 use Rattle.java_names.specs.Symbols.{class_symbol, makers_of, written_makers, made_makers, names_of, symbols_of}
 use Rattle.java_names.specs.Symbols as symbol_specs
@@ -45,17 +41,12 @@ use Rattle.java_exprs.specs.Lookups.{maker_of}
 use Rattle.java_types.specs.Bodies.{made_maker}
 use Rattle.java_types.specs.Declarations.{declaration_faults}
 use Rattle.typing_law.specs.Agrees.{AgreesOnMaker}
-use Rattle.typing_law.proofs.Scopes.{get_before}
-use Rattle.typing_law.proofs.Tables.{row_at, numbers_at, env_with, program_with, class_symbol_at, class_within}
-use Rattle.typing_law.proofs.Numbered.{stands_at, get_behind, not_built_in}
-use Rattle.typing_law.proofs.FileClasses.{HasTree, tree_at, of_class, maker_values}
-
-use Rattle.core_tree.specs.BuiltIn as core
+use Rattle.typing_law.proofs.Tables.{row_at, numbers_at, env_with, program_with, class_symbol_at}
+use Rattle.typing_law.proofs.Numbered.{get_behind, not_built_in}
 use Rattle.class_table.specs.BuiltIn.{built_in, exception_makers, string_type, object, throwable, exception}
 use Rattle.class_table.specs.BuiltIn as classes
-use Rattle.java_names.specs.Types.{type_of}
 use Rattle.core_tree.proofs.TypeNodes.{is_value_type-Text}
-use Rattle.typing_law.proofs.FileMakers.{shifted, maker_lengths, maker_counts, arity_of, found_by, written_found, written_agrees}
+use Rattle.typing_law.proofs.FileMakers.{shifted, maker_lengths, arity_of, found_by, written_found, written_agrees}
 
 -- ---- constructors that are made
 
@@ -206,10 +197,13 @@ module _ (tree : FileTree) (constants : List (ℕ × Option Literal)) (none : of
             (λ e. ap (λ ts. list_all (is_value p) (declared_types all_names ts)) e.0 ∙ ap (λ b. b && true) (is_value_type-Text (length p.classes)))
             (params found.0 found.1 found.2));
         of_file = λ k is_k. absurd (none-some k (ap (λ s. s.number) (sym found.3) ∙ is_k));
-        built_in = λ is_none. (built_in_c, ⊎_elim
-            (λ e. inl (params_is ∙ ap (declared_types all_names) e))
-            (λ e. inr (params_is ∙ ap (declared_types all_names) e.0 ∙ string_declared all_names, ap not e.1))
-            (params found.0 found.1 found.2));
+        built_in = λ is_none. (
+          built_in_c,
+          ⊎_elim
+              (λ e. inl (params_is ∙ ap (declared_types all_names) e))
+              (λ e. inr (params_is ∙ ap (declared_types all_names) e.0 ∙ string_declared all_names, ap not e.1))
+              (params found.0 found.1 found.2),
+        );
       }
 
   made_agrees : (c : ℕ) (row : ClassRow) (arity : ℕ) (m : MakerSymbol) → 18 ≤ c → slice_get table.classes c ≡ Some row → row.makers ≡ [] → look arity (made_makers c (numbers c).made row.at) ≡ Some m → Agree c arity m
@@ -224,9 +218,12 @@ module _ (tree : FileTree) (constants : List (ℕ × Option Literal)) (none : of
           record {
             same_arity = ap (λ s. length s.params) (sym same) ∙ arity_of (λ s. length s.params) (symbol_specs.made_maker c (numbers c).made row.at ∷ []) arity 0 (symbol_specs.made_maker c (numbers c).made row.at) is_n refl;
             params = ap (λ s. list_all (is_value (program_with table tree constants)) s.params) (sym same);
-            of_file = λ k is_k. (made_maker (env_with table tree constants) c,
-                ap (slice_get (program_with table tree constants).makers) (sym (same_Some _ _ (ap (λ s. s.number) same ∙ is_k))) ∙ made_there (env_with table tree constants) tree.classes c row least is_row empty,
-                ap (λ s. s.params) same, refl);
+            of_file = λ k is_k. (
+              made_maker (env_with table tree constants) c,
+              ap (slice_get (program_with table tree constants).makers) (sym (same_Some _ _ (ap (λ s. s.number) same ∙ is_k))) ∙ made_there (env_with table tree constants) tree.classes c row least is_row empty,
+              ap (λ s. s.params) same,
+              refl,
+            );
             built_in = λ is_none. absurd (none-some (numbers c).made (sym is_none ∙ ap (λ s. s.number) (sym same)));
           }
 

@@ -1,20 +1,18 @@
 -- Methods, constructors and initialisers of fields that break no rule are well typed (JLS 8.3.2, 8.4.7, 8.8.7).
-use Rattle.std.proofs.Common.{◌≡◌, ◌∙◌, ⊎_elim, ◌⊎◌, ℕ, zero, suc, Bool, true, false, not, ◌||◌, ◌&&◌, ◌==◌, IsTrue, List, [], ◌∷◌, ◌++◌, length, map, drop, Option, Some, None, option_map, is_some, slice_get, refl, subst, sym, ap, arith, if◌then◌else◌}
-use Rattle.std.specs.Prelude.{option_and_then, nat_eq, nat_lt, unwrap_or}
+use Rattle.std.proofs.Common.{◌≡◌, ◌∙◌, ⊎_elim, ◌⊎◌, ℕ, suc, Bool, true, false, not, ◌||◌, ◌&&◌, ◌==◌, IsTrue, List, [], ◌∷◌, ◌++◌, length, map, drop, Option, Some, None, option_map, is_some, slice_get, refl, subst, sym, ap, arith, if◌then◌else◌}
+use Rattle.std.specs.Prelude.{nat_eq}
 use Rattle.std.specs.Option.{option_map_or}
 use Rattle.std.specs.List.{list_all, flat_map}
 use Rattle.std.specs.Cmp.Lexicographic.{pointwise}
-use Rattle.std.proofs.lemmas.Option.{none-some, same_Some}
-use Rattle.std.proofs.lemmas.Bool.{false≢true, or_cases, or_left, or_right, and_from, eq-eqb}
+use Rattle.std.proofs.lemmas.Option.{none-some}
+use Rattle.std.proofs.lemmas.Bool.{false≢true, or_left, or_right, and_from, eq-eqb}
 use Rattle.std.proofs.lemmas.Cmp.{nat_list_eq_equiv}
 use Rattle.std.proofs.lemmas.List.{length-map}
 use Rattle.std.proofs.Math.Seq.{drop-append_seam}
 use Rattle.core_tree.specs.declared.ty.Ty.{Ty}
 use Rattle.core_tree.specs.declared.ty.Ty.TheVariants as ty
-use Rattle.core_tree.specs.declared.expr.Expr.{Expr as Core}
 use Rattle.core_tree.specs.declared.stmt.Stmt.{Stmt as Step}
 use Rattle.core_tree.specs.declared.program.Program.{Program}
-use Rattle.core_tree.specs.declared.program.Parent.{Parent}
 use Rattle.core_tree.specs.declared.program.Parent.TheVariants as parent
 use Rattle.core_tree.specs.BuiltIn.{is_built_in}
 use Rattle.core_tree.specs.Types.{is_void}
@@ -31,30 +29,29 @@ use Rattle.java_syntax.specs.declared.class.MakerTree.{MakerTree}
 use Rattle.class_table.specs.Members.{is_static, types_of}
 use Rattle.java_names.specs.declared.scope.Scope.{Scope}
 use Rattle.java_names.specs.declared.symbol.MakerSymbol.{MakerSymbol}
-use Rattle.java_names.specs.Scope.{first_scope, declared}
+use Rattle.java_names.specs.Scope.{first_scope}
 use Rattle.java_names.specs.Types.{declared_type, declared_types, answer_type}
 use Rattle.java_exprs.specs.declared.environment.Environment.{Environment}
-use Rattle.java_exprs.specs.Attr.{Attr, unless, of_rule, value_faults, values_faults}
-use Rattle.java_exprs.specs.Lookups.{superclass_of, maker_of, unknown_type, type_named}
+use Rattle.java_exprs.specs.Attr.{Attr, of_rule, value_faults, values_faults}
+use Rattle.java_exprs.specs.Lookups.{maker_of, unknown_type}
 use Rattle.java_exprs.specs.Resolved.{cores, first_core}
 use Rattle.java_exprs.specs.Rules.{wants_type, wants_each}
 use Rattle.java_exprs.specs.Checks.{attr}
-use Rattle.java_types.specs.Effects.{sequence}
 use Rattle.java_types.specs.Statements.{effect, again_10}
 use Rattle.java_types.specs.Declarations.{with_param, with_params, params_10, answer_10, method_scope, maker_scope}
 use Rattle.java_types.specs.Bodies.{start_faults, field_faults, core_field, body_effects, method_effects, core_method, parent_11, parent_12, parent_13, parent_faults, parent_faults_of, built_in_parent, core_parent_of, core_parent, beginning, params_scope, given_of, maker_effects, maker_faults, core_maker, made_maker}
 use Rattle.typing_law.specs.Agrees.{Agrees, AgreesOnMaker, IsOfFile}
-use Rattle.typing_law.specs.Scopes.{IsKnown, GoesTo, FitsBody, Includes}
+use Rattle.typing_law.specs.Scopes.{IsKnown, GoesTo, FitsBody}
 use Rattle.typing_law.proofs.TypeFacts as facts
 use Rattle.typing_law.proofs.NoFaults.{empty_parts, empty_rule, unless_empty}
 use Rattle.typing_law.proofs.Values.{value_not_void}
 use Rattle.typing_law.proofs.Standing.{and_l}
-use Rattle.typing_law.proofs.Parts.{Holds, value_part}
+use Rattle.typing_law.proofs.Parts.{value_part}
 use Rattle.typing_law.proofs.Arguments.{AllHold, arguments_fit, fits_wanted}
 use Rattle.typing_law.proofs.Spelled.{declared_value}
 use Rattle.typing_law.proofs.Exprs.{expr_right}
 use Rattle.typing_law.proofs.Scopes.{goes_nowhere, goes_on, goes_declared, fits_before, fits_after, scope_agrees}
-use Rattle.typing_law.proofs.Statements.{StmtsAreRight, sequence_right}
+use Rattle.typing_law.proofs.Statements.{sequence_right}
 use Rattle.typing_law.proofs.Stmts.{stmts_right}
 
 -- ---- lists

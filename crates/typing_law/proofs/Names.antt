@@ -1,23 +1,20 @@
 -- Fields, constants and methods: what is named and breaks no rule is well typed (JLS 15.11, 15.12).
-use Rattle.std.proofs.Common.{◌≡◌, ◌∙◌, ⊎_elim, inl, inr, ℕ, Bool, true, false, not, ◌||◌, ◌&&◌, ◌==◌, IsTrue, List, [], ◌∷◌, ◌++◌, length, map, Option, Some, None, option_map, is_some, slice_get, refl, subst, sym, ap, if◌then◌else◌}
+use Rattle.std.proofs.Common.{◌≡◌, ◌∙◌, ⊎_elim, inr, ℕ, Bool, true, false, not, ◌||◌, ◌&&◌, IsTrue, List, [], ◌++◌, length, map, Option, Some, None, option_map, is_some, slice_get, refl, subst, sym, ap, if◌then◌else◌}
 use Rattle.std.specs.Prelude.{option_and_then, is_none, unwrap_or}
 use Rattle.std.specs.Option.{option_map_or}
-use Rattle.std.specs.List.{list_all}
-use Rattle.std.proofs.lemmas.Option.{none-some, same_Some}
-use Rattle.std.proofs.lemmas.Bool.{false≢true, or_cases, or_left, or_right, and_from}
+use Rattle.std.proofs.lemmas.Option.{none-some}
+use Rattle.std.proofs.lemmas.Bool.{false≢true, or_cases, and_from}
 use denote.Hole.Carrier.{out, shown, hidden}
 use Rattle.core_tree.specs.declared.ty.Ty.{Ty}
 use Rattle.core_tree.specs.declared.ty.Ty.TheVariants as ty
 use Rattle.core_tree.specs.declared.expr.Site.{Site}
 use Rattle.core_tree.specs.declared.expr.Expr.{Expr as Core, out-Expr}
 use Rattle.core_tree.specs.declared.expr.Expr.TheBlock.{shown-the_row-Expr-0}
-use Rattle.core_tree.specs.declared.expr.Expr.TheOpen.{Expr-F as Core-F}
 use Rattle.core_tree.specs.declared.expr.Expr.TheVariants as core
 use Rattle.core_tree.specs.declared.expr.Expr.TheViews as view
-use Rattle.core_tree.specs.declared.program.Method.{Method}
 use Rattle.core_tree.specs.declared.program.Program.{Program}
-use Rattle.core_tree.specs.Types.{class_of, is_int, is_boolean, is_string, is_null, is_void, is_value_type}
-use Rattle.core_tree.specs.Typing.{Scope as CoreScope, PartType, all_fit, call_type, chosen_type, field_type, is_int_number, is_of_superclass, is_throwable, type_of, where_true}
+use Rattle.core_tree.specs.Types.{class_of, is_int, is_void}
+use Rattle.core_tree.specs.Typing.{Scope as CoreScope, all_fit, call_type, chosen_type, field_type, is_int_number, is_of_superclass, is_throwable, type_of, where_true}
 use Rattle.core_tree.specs.WellTyped.{is_value}
 use Rattle.core_tree.proofs.ExprNodes.{type_of-Int, type_of-Bool, type_of-Text, type_of-Null, type_of-This, type_of-Field, type_of-Static, type_of-Chosen, type_of-Super, type_of-Message}
 use Rattle.java_syntax.specs.declared.name.Ident.{Ident}
@@ -33,16 +30,16 @@ use Rattle.java_exprs.specs.declared.typed.Form.{Form}
 use Rattle.java_exprs.specs.declared.typed.Form.TheVariants as form
 use Rattle.java_exprs.specs.declared.through.Through.{Through}
 use Rattle.java_exprs.specs.declared.through.Through.TheVariants as through
-use Rattle.java_exprs.specs.Attr.{Attr, unless, only_if, values_faults}
+use Rattle.java_exprs.specs.Attr.{Attr, only_if, values_faults}
 use Rattle.java_exprs.specs.Members.{Naming, Calling, is_found, named_member}
 use Rattle.java_exprs.specs.Lookups.{superclass_of, member_of, method_of, has_method, constant_at, variable_denotes, answer_denotes}
 use Rattle.java_exprs.specs.Denotes.{member_denotes, member_form, call_denotes}
 use Rattle.java_exprs.specs.Resolved.{cores, literal_core, member_core, instance_call, method_core, call_core, site_at}
-use Rattle.java_exprs.specs.Rules.{is_behind_class, is_on_object, needs_this, is_misplaced, method_at, naming_10, naming_11, naming_14, calling_10, calling_11, calling_12, calling_14, wants_each}
-use Rattle.typing_law.specs.Means.{HasType, Means, MeansForm, IsPlace, is_place}
+use Rattle.java_exprs.specs.Rules.{is_behind_class, needs_this, is_misplaced, naming_10, naming_11, naming_14, calling_10, calling_11, calling_12, calling_14, wants_each}
+use Rattle.typing_law.specs.Means.{HasType, Means, MeansForm, is_place}
 use Rattle.typing_law.specs.Agrees.{Agrees, AgreesOnField, AgreesOnStatic, AgreesOnMethod, AgreesOnSuper, AgreesOnScope, is_literal_of}
 use Rattle.typing_law.proofs.TypeFacts as facts
-use Rattle.typing_law.proofs.Values.{values_int, values_bool, values_text, values_value, value_not_void}
+use Rattle.typing_law.proofs.Values.{values_value, value_not_void}
 use Rattle.typing_law.proofs.NoFaults.{empty_parts, unless_empty, only_if_empty}
 use Rattle.typing_law.proofs.Standing.{and_l, and_r}
 use Rattle.typing_law.proofs.Nodes.{has_type, where_holds}
@@ -210,7 +207,7 @@ module _ (env : Environment) (p : Program) (agrees : Agrees env p) (s : Scope) (
         type_of-Static p cs (unwrap_or m.number 0) (cores xs) site
         ∙ ap (call_type p (λ method. not method.on_object) (map (type_of p cs) (cores xs))) agree.found
         ∙ where_holds (not agree.method.on_object && all_fit p agree.method.params (map (type_of p cs) (cores xs))) agree.method.answer
-            (and_from (not agree.method.on_object) (all_fit p agree.method.params (map (type_of p cs) (cores xs))) (ap not agree.static) (ap (λ ts. all_fit p ts (map (type_of p cs) (cores xs))) agree.params ∙ fit))
+        (and_from (not agree.method.on_object) (all_fit p agree.method.params (map (type_of p cs) (cores xs))) (ap not agree.static) (ap (λ ts. all_fit p ts (map (type_of p cs) (cores xs))) agree.params ∙ fit))
         ∙ ap Some agree.answer
 
     super_typed : (c : ℕ) (m : MethodSymbol) (site : Site) → AgreesOnSuper p s.class m → s.is_static ≡ false → IsTrue (all_fit p m.params (map (type_of p cs) (cores xs))) →

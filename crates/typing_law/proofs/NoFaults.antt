@@ -1,8 +1,7 @@
 -- What follows where no fault is listed.
-use Rattle.std.proofs.Common.{◌≡◌, ◌∙◌, ℕ, Bool, true, false, List, [], ◌∷◌, ◌++◌, Option, Some, None, refl, sym, ap}
-use Rattle.std.specs.Option.{option_map_or}
+use Rattle.std.proofs.Common.{◌≡◌, ℕ, Bool, true, false, List, [], ◌∷◌, ◌++◌, refl}
 use Rattle.java_syntax.specs.declared.fault.Fault.{Fault}
-use Rattle.java_exprs.specs.Attr.{Attr, unless, only_if, of_rule, value_faults, values_faults}
+use Rattle.java_exprs.specs.Attr.{unless, only_if, of_rule}
 
 no_item : {X : Type 0} (x : X) (xs : List X) → ◌≡◌ {A = List X} (x ∷ xs) [] → ⊥
 no_item x xs e = cc

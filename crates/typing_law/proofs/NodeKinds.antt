@@ -1,13 +1,11 @@
 -- Each kind of expression but operators: a node that breaks no rule is well typed.
-use Rattle.std.proofs.Common.{◌≡◌, ◌∙◌, ⊎_elim, ◌⊎◌, inl, inr, ℕ, ℤ, pos, zero, suc, Bool, true, false, not, ◌||◌, ◌&&◌, ◌==◌, IsTrue, List, [], ◌∷◌, ◌++◌, length, map, Option, Some, None, option_map, is_some, slice_get, refl, subst, sym, ap, arith, w32, if◌then◌else◌}
-use Rattle.std.specs.Prelude.{option_and_then, is_none, unwrap_or, nat_lt}
+use Rattle.std.proofs.Common.{◌≡◌, ◌∙◌, ⊎_elim, ◌⊎◌, ℕ, ℤ, pos, suc, Bool, true, false, not, ◌||◌, ◌&&◌, ◌==◌, IsTrue, List, [], ◌∷◌, length, map, Option, Some, None, option_map, is_some, refl, subst, sym, ap, arith, w32, if◌then◌else◌}
+use Rattle.std.specs.Prelude.{option_and_then, unwrap_or}
 use Rattle.std.specs.Option.{option_map_or}
-use Rattle.std.specs.Int.{int_wrap}
 use Rattle.std.specs.Ordering.{int_eq}
 use Rattle.std.proofs.lemmas.Cmp.{int_eq_equiv}
 use Rattle.std.proofs.lemmas.Int.{int_wrap_fits, SFits-int_wrap}
-use Rattle.std.proofs.lemmas.Option.{none-some, same_Some}
-use Rattle.std.proofs.lemmas.Bool.{false≢true, eqb-true, or_cases, or_left, or_right, and_from}
+use Rattle.std.proofs.lemmas.Bool.{false≢true, and_from}
 use Rattle.pb_int.specs.Int32.{wrap}
 use Rattle.core_tree.specs.declared.ty.Ty.{Ty}
 use Rattle.core_tree.specs.declared.ty.Ty.TheVariants as ty
@@ -16,17 +14,17 @@ use Rattle.core_tree.specs.declared.expr.Expr.{Expr as Core}
 use Rattle.core_tree.specs.declared.expr.Expr.TheVariants as core
 use Rattle.core_tree.specs.declared.expr.Expr.TheViews as view
 use Rattle.core_tree.specs.declared.program.Program.{Program}
-use Rattle.core_tree.specs.Types.{class_of, elements_of, is_int, is_boolean, is_string, is_null, is_object, is_assignable, is_value_type}
-use Rattle.core_tree.specs.Typing.{Scope as CoreScope, PartType, has, fits, has_text, is_text_or_null, is_castable, is_int_number, all_fit, type_of, where_true}
+use Rattle.core_tree.specs.Types.{elements_of, is_int, is_object, is_assignable, is_value_type}
+use Rattle.core_tree.specs.Typing.{Scope as CoreScope, has, fits, is_castable, is_int_number, all_fit, type_of, where_true}
 use Rattle.core_tree.specs.WellTyped.{is_value}
 use Rattle.core_tree.specs.BuiltIn.{is_built_in}
 use Rattle.core_tree.proofs.TypeNodes.{is_value_type-Array}
-use Rattle.core_tree.proofs.ExprNodes.{type_of-Int, type_of-Bool, type_of-Text, type_of-Null, type_of-Local, type_of-Length, type_of-Element, type_of-TextLength, type_of-TextEquals, type_of-New, type_of-NewBuilt, type_of-NewArray, type_of-Cast, type_of-Is}
+use Rattle.core_tree.proofs.ExprNodes.{type_of-Int, type_of-Bool, type_of-Text, type_of-Null, type_of-Local, type_of-Element, type_of-New, type_of-NewBuilt, type_of-NewArray, type_of-Cast, type_of-Is}
 use Rattle.java_syntax.specs.declared.name.Ident.{Ident}
 use Rattle.java_syntax.specs.declared.name.TypeTree.{TypeTree}
 use Rattle.java_syntax.specs.declared.name.BaseType.{BaseType}
 use Rattle.java_syntax.specs.declared.expression.Expr.TheOpen.{Expr-F}
-use Rattle.class_table.specs.Names.{Name, same_name}
+use Rattle.class_table.specs.Names.{same_name}
 use Rattle.java_names.specs.declared.scope.Scope.{Scope}
 use Rattle.java_names.specs.Types.{arrays}
 use Rattle.java_names.specs.declared.symbol.FieldSymbol.{FieldSymbol}
@@ -37,27 +35,27 @@ use Rattle.java_exprs.specs.declared.typed.Denotation.TheVariants as denotes
 use Rattle.java_exprs.specs.declared.typed.Form.{Form}
 use Rattle.java_exprs.specs.declared.typed.Form.TheVariants as form
 use Rattle.java_exprs.specs.declared.through.Through.TheVariants as through
-use Rattle.java_exprs.specs.Attr.{Attr, value_type, unless, only_if, is_nothing, nothing_11, value_faults, prefix_faults, values_faults}
+use Rattle.java_exprs.specs.Attr.{Attr, value_type, unless, only_if, value_faults}
 use Rattle.java_exprs.specs.Types as rules
-use Rattle.java_exprs.specs.Members.{Naming, naming, naming_behind, calling_behind, is_found, named_member}
-use Rattle.java_exprs.specs.Lookups.{superclass_of, member_of, maker_of, class_named, local_named, local_denotes, variable_denotes, type_named, elements_named, constant_at}
-use Rattle.java_exprs.specs.Denotes.{value, member_denotes, member_form, call_denotes, class_denotes, form_inside, library_field, library_method, text_method, length_name, equals_name, out_name, system_name, println_name, is_print}
-use Rattle.java_exprs.specs.Resolved.{cores, literal_core, first_core, member_core, call_core, library_core}
-use Rattle.java_exprs.specs.Rules.{wants, wants_type, wants_each, has_members, is_array, naming_10, naming_11, naming_14, calling_10, calling_11, calling_12, calling_14, field_10, method_10, is_text_method, prefix_11, library_11, library_12, text_12, cast_15, rule_15, new_11}
+use Rattle.java_exprs.specs.Members.{is_found}
+use Rattle.java_exprs.specs.Lookups.{member_of, maker_of, class_named, local_named, local_denotes, variable_denotes, elements_named, constant_at}
+use Rattle.java_exprs.specs.Denotes.{value, member_form, call_denotes, class_denotes, form_inside, system_name}
+use Rattle.java_exprs.specs.Resolved.{cores, literal_core, first_core, member_core, call_core}
+use Rattle.java_exprs.specs.Rules.{wants, wants_each, is_array, naming_14, calling_10, calling_11, calling_12, cast_15, new_11}
 use Rattle.java_exprs.specs.Checks.{attr_at}
-use Rattle.typing_law.specs.Means.{StandsFor, HasType, Means, MeansForm, IsPlace, IsRight, has_values, prints}
+use Rattle.typing_law.specs.Means.{HasType, Means, MeansForm, IsPlace, IsRight, has_values}
 use Rattle.typing_law.specs.Agrees.{Agrees, AgreesOnScope, AgreesOnLocal, AgreesOnMaker}
 use Rattle.typing_law.proofs.Types.{same_assignable}
 use Rattle.typing_law.proofs.TypeFacts as facts
-use Rattle.typing_law.proofs.Values.{values_int, values_text, values_null, values_value, class_value, element_values, value_not_void}
+use Rattle.typing_law.proofs.Values.{values_null, values_value, class_value, element_values, value_not_void}
 use Rattle.typing_law.proofs.NoFaults.{empty_parts, unless_empty, only_if_empty, no_place}
-use Rattle.typing_law.proofs.Standing.{and_l, and_r, exact, has_exact, has_string, has_printed}
-use Rattle.typing_law.proofs.Parts.{Holds, IsValue, value_part, right_part, prefix_part, wanted}
-use Rattle.typing_law.proofs.Nodes.{BreaksNone, breaks_none, has_type, has_type_int, has_type_bool, has_type_text, where_holds}
-use Rattle.typing_law.proofs.Arguments.{AllHold, arguments_fit, fits_wanted}
+use Rattle.typing_law.proofs.Standing.{and_l, exact, has_exact}
+use Rattle.typing_law.proofs.Parts.{Holds, IsValue, value_part, right_part, wanted}
+use Rattle.typing_law.proofs.Nodes.{breaks_none, has_type, has_type_int, has_type_bool, has_type_text, where_holds}
+use Rattle.typing_law.proofs.Arguments.{AllHold, arguments_fit}
 use Rattle.typing_law.proofs.Names as names
 use Rattle.typing_law.proofs.Spelled.{known_type, known_base, spelled_value, elements_value}
-use Rattle.typing_law.proofs.Casts.{castable, object_no_string}
+use Rattle.typing_law.proofs.Casts.{castable}
 
 -- ---- numbers
 
@@ -96,9 +94,10 @@ module _ (env : Environment) (p : Program) (agrees : Agrees env p) (s : Scope) (
   local_right : (n : ℕ) → AgreesOnLocal p s cs n → Means p cs (core.Local n) (local_denotes s n) × IsPlace p cs (core.Local n) (local_denotes s n)
   local_right n local =
       let typed : type_of p cs (core.Local n) ≡ Some local.type = type_of-Local p cs n ∙ local.found in
-      let said : local_denotes s n ≡ Some (denotes.Value local.type) = ap (option_and_then variable_denotes) local.slot ∙ ap (λ b. if b then None else Some (denotes.Value local.type)) (value_not_void (length p.classes) local.type local.value) in
-      (subst (Means p cs (core.Local n)) (sym said) (has_type p cs (core.Local n) local.type typed (values_value p local.type local.value)),
-      record { place = names.place_local n; type = local.type; said = said; typed = typed })
+      let said : local_denotes s n ≡ Some (denotes.Value local.type) = ap (option_and_then variable_denotes) local.slot ∙ ap (λ b. if b then None else Some (denotes.Value local.type)) (value_not_void (length p.classes) local.type local.value) in (
+        subst (Means p cs (core.Local n)) (sym said) (has_type p cs (core.Local n) local.type typed (values_value p local.type local.value)),
+        record { place = names.place_local n; type = local.type; said = said; typed = typed },
+      )
 
   class_means : (x : Ident) (found : Option ℕ) → (is_some found || same_name x.name system_name) ≡ true → Means p cs core.Null (option_map_or (λ c. Some (denotes.Class c)) found (if same_name x.name system_name then Some denotes.System else None))
   class_means x (Some c) known = tt
@@ -143,7 +142,7 @@ module _ (env : Environment) (p : Program) (agrees : Agrees env p) (s : Scope) (
       cases None is none_10 none_14 =
           let same = named x (member_of env s.class x.name) in
           let right = member_name x (member_of env s.class x.name) refl (unless_empty (is_some (member_of env s.class x.name) || (is_some (class_named env x.name) || same_name x.name system_name)) x.at none_10)
-              (subst (λ found. only_if (s.is_static && (true && option_map_or (λ m. is_some m.place) found false)) x.at ≡ []) same none_14) in
+          (subst (λ found. only_if (s.is_static && (true && option_map_or (λ m. is_some m.place) found false)) x.at ≡ []) same none_14) in
           let of_field = λ (m : FieldSymbol). option_map_or (λ place. view.Field core.This place) m.place (option_map_or literal_core (constant_at env m.at) core.Null) in
           let of_form = λ (m : FieldSymbol). if is_some m.place then form.Variable else form.Constant x.at in
           let denoted = option_map_or (λ m. variable_denotes m.ty) (member_of env s.class x.name) (class_denotes env x.name) in
@@ -195,9 +194,9 @@ module _ (env : Environment) (p : Program) (agrees : Agrees env p) (s : Scope) (
       let e = some_elements v.type array in
       let said : value (option_and_then elements_of (value_type a.denotes)) ≡ Some (denotes.Value e.0) = ap (λ d. value (option_and_then elements_of (value_type d))) v.said ∙ ap value e.1 in
       let typed : type_of p cs (view.Element a.core i.core) ≡ Some e.0 =
-          type_of-Element p cs a.core i.core
-          ∙ ap (λ x. if x then option_and_then elements_of (type_of p cs a.core) else None) (has_exact p cs i.core w.type w.has is_int facts.is_int-Text (wanted p cs is_int i w asked.1))
-          ∙ ap (option_and_then elements_of) (exact p cs a.core v.type v.has is_array no_array_text array) ∙ e.1 in
+      type_of-Element p cs a.core i.core
+      ∙ ap (λ x. if x then option_and_then elements_of (type_of p cs a.core) else None) (has_exact p cs i.core w.type w.has is_int facts.is_int-Text (wanted p cs is_int i w asked.1))
+      ∙ ap (option_and_then elements_of) (exact p cs a.core v.type v.has is_array no_array_text array) ∙ e.1 in
       let values = values_value p e.0 (element_values p e.0 (subst (λ t. IsTrue (has_values p t)) (facts.array_type v.type e.0 e.1) v.has.values)) in
       record {
         means = subst (Means p cs (view.Element a.core i.core)) (sym said) (has_type p cs (view.Element a.core i.core) e.0 typed values);
@@ -213,8 +212,8 @@ module _ (env : Environment) (p : Program) (agrees : Agrees env p) (s : Scope) (
       let is : elements_named env base dimensions ≡ Some elements = ap (option_map (arrays dimensions)) known.1 in
       let values = elements_value env p agrees.class base dimensions elements is in
       let typed : type_of p cs (view.NewArray elements e.core) ≡ Some (type.Array elements) =
-          type_of-NewArray p cs elements e.core ∙ where_holds (has is_int (type_of p cs e.core) && is_value_type (length p.classes) elements) (type.Array elements)
-          (and_from (has is_int (type_of p cs e.core)) (is_value_type (length p.classes) elements) (has_exact p cs e.core v.type v.has is_int facts.is_int-Text (wanted p cs is_int e v b.rule_11)) values) in
+      type_of-NewArray p cs elements e.core ∙ where_holds (has is_int (type_of p cs e.core) && is_value_type (length p.classes) elements) (type.Array elements)
+      (and_from (has is_int (type_of p cs e.core)) (is_value_type (length p.classes) elements) (has_exact p cs e.core v.type v.has is_int facts.is_int-Text (wanted p cs is_int e v b.rule_11)) values) in
       record {
         means = subst (λ found. Means p cs (view.NewArray (unwrap_or found ty.Int) e.core) (value (option_map type.Array found))) (sym is)
             (has_type p cs (view.NewArray elements e.core) (type.Array elements) typed (values_value p (type.Array elements) (is_value_type-Array (length p.classes) elements ∙ values)));

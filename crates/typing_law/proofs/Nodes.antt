@@ -1,13 +1,13 @@
 -- What a node that breaks no rule says of each rule.
-use Rattle.std.proofs.Common.{◌≡◌, ◌∙◌, ℕ, Bool, true, false, IsTrue, List, [], ◌∷◌, ◌++◌, Option, Some, None, inl, refl, sym, ap}
+use Rattle.std.proofs.Common.{◌≡◌, Bool, IsTrue, [], Some, inl, refl, ap}
 use Rattle.core_tree.specs.declared.ty.Ty.{Ty}
 use Rattle.core_tree.specs.declared.ty.Ty.TheVariants as ty
 use Rattle.core_tree.specs.declared.expr.Expr.{Expr as Core}
 use Rattle.core_tree.specs.declared.program.Program.{Program}
-use Rattle.core_tree.specs.Typing.{Scope as CoreScope, PartType, type_of, where_true}
+use Rattle.core_tree.specs.Typing.{Scope as CoreScope, type_of, where_true}
 use Rattle.java_names.specs.declared.scope.Scope.{Scope}
 use Rattle.java_exprs.specs.declared.environment.Environment.{Environment}
-use Rattle.java_exprs.specs.Attr.{Attr, Node, of_rule}
+use Rattle.java_exprs.specs.Attr.{Node, of_rule}
 use Rattle.java_exprs.specs.Rules.{rule_10, rule_11, rule_12, rule_13, rule_14, rule_15, rule_16, rule_19, rule_21, broken_below, broken_here}
 use Rattle.java_exprs.specs.Checks.{attr_at}
 use Rattle.typing_law.specs.Means.{HasType, has_values}

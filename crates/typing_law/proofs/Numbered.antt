@@ -1,5 +1,5 @@
 -- Methods and constructors stand in the program at the numbers that the symbols give them.
-use Rattle.std.proofs.Common.{◌≡◌, ◌∙◌, ⊎_elim, ◌⊎◌, inl, inr, ℕ, zero, suc, ◌+◌, ◌-◌, ◌<◌, ◌≤◌, Bool, true, false, nat_lt, IsTrue, List, [], ◌∷◌, ◌++◌, length, map, Option, Some, None, option_map, slice_get, refl, subst, sym, ap, arith, if◌then◌else◌}
+use Rattle.std.proofs.Common.{◌≡◌, ◌∙◌, ℕ, zero, suc, ◌+◌, ◌-◌, ◌≤◌, false, List, [], ◌∷◌, ◌++◌, length, Some, slice_get, subst, sym, ap, arith}
 use Rattle.std.specs.List.{flat_map}
 use Rattle.std.proofs.lemmas.Option.{none-some, same_Some}
 use Rattle.std.proofs.lemmas.Bool.{le-ltb}
@@ -46,10 +46,11 @@ module _ {X Y : Type 0} (give : ℕ → Member → List X) (own : List Member �
     file_at [] n numbers front counted least j i row y is is_y = absurd (none-some row is)
     file_at (k ∷ ks) n numbers front counted least zero i row y is is_y =
         let here = found n k.members i y (ap (λ ys. slice_get ys i) (sym (of_row_is all known n k)) ∙ ap (λ r. slice_get (of_row r) i) (same_Some _ _ is) ∙ is_y) in
-        let e : n ≡ n + 0 = omega arith in
-        (here.0,
-        ap (λ m. slice_get (front ++ (flat_map (give n) k.members ++ of_members give (suc n) ks)) (m + i)) counted ∙ get_behind front (flat_map (give n) k.members ++ of_members give (suc n) ks) i ∙ get_before (flat_map (give n) k.members) (of_members give (suc n) ks) i here.0 here.1,
-        subst (λ m. Is m y here.0) e here.2)
+        let e : n ≡ n + 0 = omega arith in (
+          here.0,
+          ap (λ m. slice_get (front ++ (flat_map (give n) k.members ++ of_members give (suc n) ks)) (m + i)) counted ∙ get_behind front (flat_map (give n) k.members ++ of_members give (suc n) ks) i ∙ get_before (flat_map (give n) k.members) (of_members give (suc n) ks) i here.0 here.1,
+          subst (λ m. Is m y here.0) e here.2,
+        )
     file_at (k ∷ ks) n numbers front counted least (suc j) i row y is is_y =
         let first = row_of all n (declaration known n k) in
         let later = numbers_after n numbers first in
@@ -58,10 +59,11 @@ module _ {X Y : Type 0} (give : ℕ → Member → List X) (own : List Member �
         let counted_on : count later ≡ length (front ++ mine) = counts n numbers first (not_built_in n least) ∙ ap (λ m. m + length (of_row first)) counted ∙ ap (λ m. length front + m) lengths_are ∙ sym (length-append front mine) in
         let more = file_at ks (n + 1) later (front ++ mine) counted_on (omega arith) j i row y is is_y in
         let one : n + 1 ≡ suc n = omega arith in
-        let e : n + 1 + j ≡ n + suc j = omega arith in
-        (more.0,
-        ap (λ xs. slice_get xs (count (numbers_at (n + 1) later (rows_of (n + 1) ks) j) + i)) (sym (append_assoc front mine (of_members give (suc n) ks)) ∙ ap (λ m. (front ++ mine) ++ of_members give m ks) (sym one)) ∙ more.1,
-        subst (λ m. Is m y more.0) e more.2)
+        let e : n + 1 + j ≡ n + suc j = omega arith in (
+          more.0,
+          ap (λ xs. slice_get xs (count (numbers_at (n + 1) later (rows_of (n + 1) ks) j) + i)) (sym (append_assoc front mine (of_members give (suc n) ks)) ∙ ap (λ m. (front ++ mine) ++ of_members give m ks) (sym one)) ∙ more.1,
+          subst (λ m. Is m y more.0) e more.2,
+        )
 
   -- the rows of a file behind the built-in ones
   behind : (ks : List ClassTree) (numbers : Numbers) → count numbers ≡ 0 → (j i : ℕ) (row : ClassRow) (y : Y) → slice_get (rows_from (declared_of ks) 0 (declared_of ks)) (suc (suc (suc (suc (suc (suc (suc (suc (suc (suc (suc (suc (suc (suc (suc (suc (suc (suc j)))))))))))))))))) ≡ Some row → slice_get (of_row row) i ≡ Some y →
@@ -74,7 +76,8 @@ module _ {X Y : Type 0} (give : ℕ → Member → List X) (own : List Member �
   stands_at ks numbers counted c i row y least is is_y =
       let shape : suc (suc (suc (suc (suc (suc (suc (suc (suc (suc (suc (suc (suc (suc (suc (suc (suc (suc (c - 18)))))))))))))))))) ≡ c = omega arith in
       let place : 18 + (c - 18) ≡ c = omega arith in
-      let there = behind ks numbers counted (c - 18) i row y (ap (slice_get (rows_from (declared_of ks) 0 (declared_of ks))) shape ∙ is) is_y in
-      (there.0,
-      ap (λ k. slice_get (of_members give 18 ks) (count (numbers_at 0 numbers (rows_from (declared_of ks) 0 (declared_of ks)) k) + i)) (sym shape) ∙ there.1,
-      subst (λ k. Is k y there.0) place there.2)
+      let there = behind ks numbers counted (c - 18) i row y (ap (slice_get (rows_from (declared_of ks) 0 (declared_of ks))) shape ∙ is) is_y in (
+        there.0,
+        ap (λ k. slice_get (of_members give 18 ks) (count (numbers_at 0 numbers (rows_from (declared_of ks) 0 (declared_of ks)) k) + i)) (sym shape) ∙ there.1,
+        subst (λ k. Is k y there.0) place there.2,
+      )

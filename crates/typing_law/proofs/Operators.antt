@@ -1,18 +1,14 @@
 -- Operators: an application that breaks no rule is well typed (JLS 15.15 to 15.25).
-use Rattle.std.proofs.Common.{◌≡◌, ◌∙◌, ⊎_elim, ◌⊎◌, inl, inr, ℕ, Bool, true, false, not, ◌||◌, ◌&&◌, ◌==◌, IsTrue, List, [], ◌∷◌, ◌++◌, Option, Some, None, refl, subst, sym, ap, if◌then◌else◌}
+use Rattle.std.proofs.Common.{◌≡◌, ◌∙◌, ⊎_elim, ◌⊎◌, inl, inr, ℕ, Bool, true, false, not, ◌||◌, ◌&&◌, ◌==◌, IsTrue, List, [], ◌++◌, Some, None, refl, subst, sym, ap, if◌then◌else◌}
 use Rattle.std.specs.Option.{option_map_or}
-use Rattle.std.proofs.lemmas.Option.{none-some, same_Some}
 use Rattle.std.proofs.lemmas.Bool.{false≢true, or_cases, or_left, or_right, and_from}
 use denote.Hole.Carrier.{out, shown, hidden}
 use Rattle.core_tree.specs.declared.ty.Ty.{Ty, out-Ty}
 use Rattle.core_tree.specs.declared.ty.Ty.TheBlock.{shown-the_row-Ty-0}
 use Rattle.core_tree.specs.declared.ty.Ty.TheVariants as ty
-use Rattle.core_tree.specs.declared.operator.UnOp.{UnOp}
 use Rattle.core_tree.specs.declared.operator.UnOp.TheVariants as un
 use Rattle.core_tree.specs.declared.operator.BinOp.{BinOp}
 use Rattle.core_tree.specs.declared.operator.BinOp.TheVariants as bin
-use Rattle.core_tree.specs.declared.expr.Expr.{Expr as Core}
-use Rattle.core_tree.specs.declared.expr.Expr.TheOpen.{Expr-F as Core-F}
 use Rattle.core_tree.specs.declared.expr.Expr.TheViews as view
 use Rattle.core_tree.specs.declared.program.Program.{Program}
 use Rattle.core_tree.specs.Types.{is_int, is_boolean, is_string, is_null, is_object, elements_of, is_subclass, is_assignable}
@@ -27,23 +23,21 @@ use Rattle.java_syntax.specs.declared.operator.BinaryOp.TheVariants as binary
 use Rattle.java_syntax.specs.declared.expression.Expr.TheOpen.{Expr-F}
 use Rattle.java_names.specs.declared.scope.Scope.{Scope}
 use Rattle.java_exprs.specs.declared.environment.Environment.{Environment}
-use Rattle.java_exprs.specs.declared.typed.Denotation.{Denotation}
-use Rattle.java_exprs.specs.declared.typed.Denotation.TheVariants as denotes
-use Rattle.java_exprs.specs.Attr.{Attr, value_type, unless, only_if, of_rule, value_faults, negated_faults}
+use Rattle.java_exprs.specs.Attr.{Attr, value_type, unless, only_if, value_faults}
 use Rattle.java_exprs.specs.Types as rules
-use Rattle.java_exprs.specs.Denotes.{value, unary_type, binary_type, bitwise_type, sum_type, is_text, choice_type}
-use Rattle.java_exprs.specs.Resolved.{un_op, strict_op, binary_core, joins}
-use Rattle.java_exprs.specs.Rules.{wants, of_types, unary_11, both_11, bitwise_11, equality_11, equality_16, is_bitwise, fits_bitwise, sum_11, sum_21, binary_11, rule_16, rule_21, choice_11}
+use Rattle.java_exprs.specs.Denotes.{value, binary_type, bitwise_type, sum_type, is_text, choice_type}
+use Rattle.java_exprs.specs.Resolved.{binary_core, joins}
+use Rattle.java_exprs.specs.Rules.{wants, of_types, both_11, bitwise_11, equality_11, equality_16, is_bitwise, fits_bitwise, sum_11, sum_21, binary_11, rule_16, rule_21}
 use Rattle.java_exprs.specs.Checks.{attr_at}
-use Rattle.typing_law.specs.Means.{StandsFor, HasType, Means, IsRight, has_values}
+use Rattle.typing_law.specs.Means.{StandsFor, HasType, Means, has_values}
 use Rattle.typing_law.specs.Agrees.{Agrees}
 use Rattle.typing_law.proofs.Types.{same_assignable}
 use Rattle.typing_law.proofs.TypeFacts as facts
-use Rattle.typing_law.proofs.Values.{values_text_or_object, text_to_text, text_to_null, null_to_text, null_to_null}
+use Rattle.typing_law.proofs.Values.{values_text_or_object, text_to_null, null_to_text, null_to_null}
 use Rattle.typing_law.proofs.NoFaults.{empty_parts, unless_empty, only_if_empty}
-use Rattle.typing_law.proofs.Standing.{and_l, and_r, stands_exact, stands_fits, exact, has_texts, has_string}
+use Rattle.typing_law.proofs.Standing.{exact, has_texts, has_string}
 use Rattle.typing_law.proofs.Parts.{Holds, IsValue, value_part, negated_part, wanted}
-use Rattle.typing_law.proofs.Nodes.{BreaksNone, breaks_none, has_type_int, has_type_bool, has_type_text, where_holds}
+use Rattle.typing_law.proofs.Nodes.{breaks_none, has_type_int, has_type_bool, has_type_text, where_holds}
 
 -- ---- what the typing says at the types themselves
 

@@ -1,18 +1,15 @@
 -- A part that stands where a value is needed and breaks no rule has a value.
-use Rattle.std.proofs.Common.{◌≡◌, ◌∙◌, ℕ, Bool, true, false, IsTrue, List, [], ◌∷◌, ◌++◌, Option, Some, None, refl, subst, sym, ap}
+use Rattle.std.proofs.Common.{◌≡◌, ℕ, Bool, IsTrue, [], Option, Some, None, refl, subst}
 use Rattle.std.specs.Option.{option_map_or}
 use Rattle.core_tree.specs.declared.ty.Ty.{Ty}
 use Rattle.core_tree.specs.declared.expr.Expr.{Expr as Core}
 use Rattle.core_tree.specs.declared.program.Program.{Program}
-use Rattle.core_tree.specs.Types.{is_void}
 use Rattle.core_tree.specs.Typing.{Scope as CoreScope}
-use Rattle.java_syntax.specs.declared.fault.Fault.{Fault}
 use Rattle.java_exprs.specs.declared.typed.Denotation.{Denotation}
 use Rattle.java_exprs.specs.declared.typed.Denotation.TheVariants as denotes
-use Rattle.java_exprs.specs.declared.typed.Form.{Form}
-use Rattle.java_exprs.specs.Attr.{Attr, value_type, unless, only_if, of_rule, is_no_value, is_nothing, named_10, nothing_11, bare_19, value_faults, negated_faults, prefix_faults, statement_faults, values_faults}
+use Rattle.java_exprs.specs.Attr.{Attr, value_type, unless, only_if, of_rule, is_no_value, is_nothing, named_10, nothing_11, bare_19, value_faults, negated_faults, prefix_faults}
 use Rattle.java_exprs.specs.Rules.{wants}
-use Rattle.typing_law.specs.Means.{HasType, Means, MeansForm, IsRight}
+use Rattle.typing_law.specs.Means.{HasType, Means, IsRight}
 use Rattle.typing_law.proofs.NoFaults.{empty_parts, empty_rule, unless_empty, no_place}
 
 -- what breaks no rule is right

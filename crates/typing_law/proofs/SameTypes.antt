@@ -1,5 +1,5 @@
 -- Each type is equal to itself.
-use Rattle.std.proofs.Common.{◌≡◌, ◌∙◌, ℕ, Bool, true, ◌==◌, IsTrue, Option, Some, refl, subst, sym, ap}
+use Rattle.std.proofs.Common.{◌≡◌, ◌∙◌, Bool, ◌==◌, IsTrue, refl, subst, sym, ap}
 use Rattle.std.specs.Option.{option_map_or}
 use Rattle.std.proofs.lemmas.Bool.{eq-eqb}
 use Rattle.core_tree.specs.declared.ty.Ty.{Ty}

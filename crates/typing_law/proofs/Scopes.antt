@@ -1,5 +1,5 @@
 -- Scopes of a body, one behind another.
-use Rattle.std.proofs.Common.{◌≡◌, ◌∙◌, ℕ, zero, suc, ◌+◌, Bool, true, false, IsTrue, List, [], ◌∷◌, ◌++◌, length, take, Option, Some, None, slice_get, refl, subst, sym, ap, arith, cond}
+use Rattle.std.proofs.Common.{◌≡◌, ◌∙◌, ℕ, zero, suc, ◌+◌, Bool, true, false, IsTrue, List, [], ◌∷◌, ◌++◌, length, take, Some, None, slice_get, refl, subst, sym, ap, arith, cond}
 use Rattle.std.specs.Map.{lookup}
 use Rattle.std.specs.List.{list_all}
 use Rattle.std.proofs.lemmas.Option.{none-some, same_Some}
@@ -14,9 +14,8 @@ use Rattle.class_table.specs.Names.{Name, same_name}
 use Rattle.java_names.specs.declared.scope.Scope.{Scope}
 use Rattle.java_names.specs.Scope.{declared, left, back_at}
 use Rattle.java_exprs.specs.declared.environment.Environment.{Environment}
-use Rattle.java_exprs.specs.Lookups.{local_named}
 use Rattle.typing_law.specs.Agrees.{AgreesOnScope}
-use Rattle.typing_law.specs.Scopes.{HasSlot, IsKnown, GoesTo, Includes, FitsBody}
+use Rattle.typing_law.specs.Scopes.{HasSlot, IsKnown, GoesTo, FitsBody}
 
 -- ---- lists
 

@@ -1,5 +1,5 @@
 -- The types that a file spells are types that variables have.
-use Rattle.std.proofs.Common.{◌≡◌, ◌∙◌, ℕ, zero, suc, Bool, true, false, IsTrue, List, [], ◌∷◌, length, Option, Some, None, option_map, refl, subst, sym, ap, if◌then◌else◌}
+use Rattle.std.proofs.Common.{◌≡◌, ◌∙◌, ℕ, zero, suc, Bool, true, false, IsTrue, [], ◌∷◌, length, Option, Some, None, option_map, refl, subst, sym, ap, if◌then◌else◌}
 use Rattle.std.specs.Prelude.{is_none, nat_lt, unwrap_or}
 use Rattle.std.proofs.lemmas.Option.{none-some, same_Some}
 use Rattle.core_tree.specs.declared.ty.Ty.{Ty}
@@ -10,7 +10,7 @@ use Rattle.core_tree.proofs.TypeNodes.{is_value_type-Int, is_value_type-Bool, is
 use Rattle.java_syntax.specs.declared.name.BaseType.{BaseType}
 use Rattle.java_syntax.specs.declared.name.BaseType.TheVariants as base
 use Rattle.java_syntax.specs.declared.name.TypeTree.{TypeTree}
-use Rattle.class_table.specs.Names.{Name, number_of}
+use Rattle.class_table.specs.Names.{Name}
 use Rattle.java_names.specs.Types as types
 use Rattle.java_exprs.specs.declared.environment.Environment.{Environment}
 use Rattle.java_exprs.specs.Lookups.{class_named, type_named, elements_named, unknown_type, unknown_base}

@@ -1,17 +1,16 @@
 -- Tests of a type hold of what stands for it.
-use Rattle.std.proofs.Common.{◌≡◌, ◌∙◌, ⊎_elim, inl, inr, ℕ, Bool, true, false, ◌||◌, ◌&&◌, IsTrue, List, length, Option, Some, None, refl, subst, sym, ap}
-use Rattle.std.specs.Option.{option_map_or}
+use Rattle.std.proofs.Common.{◌≡◌, ◌∙◌, ⊎_elim, Bool, false, ◌||◌, ◌&&◌, IsTrue, List, Some, subst, sym, ap}
 use Rattle.std.proofs.lemmas.Bool.{false≢true, or_cases, or_left, or_right, and_parts}
 use Rattle.core_tree.specs.declared.ty.Ty.{Ty}
 use Rattle.core_tree.specs.declared.ty.Ty.TheVariants as ty
 use Rattle.core_tree.specs.declared.expr.Expr.{Expr as Core}
 use Rattle.core_tree.specs.declared.program.Class.{Class}
 use Rattle.core_tree.specs.declared.program.Program.{Program}
-use Rattle.core_tree.specs.Types.{is_int, is_boolean, is_string, is_null, is_object, is_assignable, is_value_type}
-use Rattle.core_tree.specs.Typing.{Scope, PartType, has, has_text, fits, is_text_or_null, type_of}
+use Rattle.core_tree.specs.Types.{is_int, is_boolean, is_string, is_null, is_object, is_assignable}
+use Rattle.core_tree.specs.Typing.{Scope, has, has_text, fits, is_text_or_null, type_of}
 use Rattle.core_tree.proofs.TypeNodes.{is_assignable-Text, is_assignable-Null}
 use Rattle.java_exprs.specs.Types.{is_printed}
-use Rattle.typing_law.specs.Means.{StandsFor, HasType, has_values}
+use Rattle.typing_law.specs.Means.{StandsFor, HasType}
 use Rattle.typing_law.proofs.TypeFacts as type
 
 pub and_l : (a b : Bool) → IsTrue (a && b) → IsTrue a

@@ -1,8 +1,7 @@
 -- What holds of the parts of a body: sequences, blocks, loops and branches.
-use Rattle.std.proofs.Common.{◌≡◌, ◌∙◌, ℕ, Bool, true, false, ◌&&◌, IsTrue, List, [], ◌∷◌, ◌++◌, length, map, Option, Some, None, option_map, refl, subst, sym, ap}
+use Rattle.std.proofs.Common.{◌≡◌, ◌∙◌, ℕ, Bool, true, IsTrue, List, [], ◌∷◌, ◌++◌, length, map, Option, Some, None, option_map, refl, subst, sym, ap}
 use Rattle.std.specs.Option.{option_map_or}
 use Rattle.std.proofs.lemmas.Bool.{and_from}
-use Rattle.core_tree.specs.declared.ty.Ty.{Ty}
 use Rattle.core_tree.specs.declared.stmt.Stmt.{Stmt as Step}
 use Rattle.core_tree.specs.declared.stmt.Stmt.TheFolds.{fold-Catch}
 use Rattle.core_tree.specs.declared.stmt.Catch.{Catch as Handler}
@@ -10,9 +9,9 @@ use Rattle.core_tree.specs.declared.program.Program.{Program}
 use Rattle.core_tree.specs.Typing.{Scope as CoreScope, InLoop, all_of, stmt_node, catch_node, is_typed_stmt}
 use Rattle.core_tree.specs.WellTyped.{declared_node, declared_catch, declared_numbers, declared_in, all_declared, numbers_from}
 use Rattle.java_names.specs.declared.scope.Scope.{Scope}
-use Rattle.java_names.specs.Scope.{left, back_at}
+use Rattle.java_names.specs.Scope.{back_at}
 use Rattle.java_exprs.specs.declared.environment.Environment.{Environment}
-use Rattle.java_types.specs.Effects.{Effect, CatchEffect, Part, CatchPart, Branch, sequence, clauses, inner, looped, branch, in_loop}
+use Rattle.java_types.specs.Effects.{Part, CatchPart, sequence, clauses, inner, looped, branch, in_loop}
 use Rattle.typing_law.specs.Scopes.{IsKnown, GoesTo, FitsBody}
 use Rattle.typing_law.proofs.NoFaults.{empty_parts}
 use Rattle.typing_law.proofs.Scopes.{goes_nowhere, goes_on, numbers_on, goes_left, left_known, fits_before, fits_after}

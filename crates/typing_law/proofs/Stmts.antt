@@ -1,17 +1,17 @@
 -- Every statement that breaks no rule is well typed.
-use Rattle.std.proofs.Common.{◌≡◌, List, [], ◌∷◌, map, Option, Some, None, option_map, subst, sym}
+use Rattle.std.proofs.Common.{◌≡◌, List, [], ◌∷◌, map, Some, None, subst, sym}
 use Rattle.core_tree.specs.declared.program.Program.{Program}
 use Rattle.java_syntax.specs.declared.statement.CatchTree.{CatchTree, CatchTree-F}
 use Rattle.java_syntax.specs.declared.statement.CatchTree.{roll-CatchTree, map-CatchTree}
 use Rattle.java_syntax.specs.declared.statement.Stmt.{Stmt}
 use Rattle.java_syntax.specs.declared.statement.Stmt.TheOpen.{Stmt-F}
 use Rattle.java_syntax.specs.declared.statement.Stmt.TheViews.{roll-Stmt}
-use Rattle.java_syntax.specs.declared.statement.Stmt.TheFolds.{ind-Stmt, map-Stmt, fold-Stmt, fold-CatchTree, fold-roll-Stmt, fold-roll-CatchTree}
+use Rattle.java_syntax.specs.declared.statement.Stmt.TheFolds.{ind-Stmt, map-Stmt, fold-roll-Stmt, fold-roll-CatchTree}
 use Rattle.java_exprs.specs.declared.environment.Environment.{Environment}
 use Rattle.java_types.specs.Effects.{Part, CatchPart}
 use Rattle.java_types.specs.Statements.{effect, catch_effect, effect_at, catch_at}
 use Rattle.typing_law.specs.Agrees.{Agrees}
-use Rattle.typing_law.proofs.Statements.{PartHolds, PartsHold, CatchHolds, CatchesHold, BranchHolds}
+use Rattle.typing_law.proofs.Statements.{PartHolds, PartsHold, CatchHolds, CatchesHold}
 use Rattle.typing_law.proofs.BodyNodes as nodes
 use Rattle.typing_law.proofs.BodyParts as parts
 

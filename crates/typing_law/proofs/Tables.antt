@@ -1,16 +1,14 @@
 -- The classes of a file's symbols and of its program stand at the places of the table's rows, with the same lines.
-use Rattle.std.proofs.Common.{◌≡◌, ◌∙◌, ℕ, zero, suc, ◌+◌, ◌<◌, ◌≤◌, Bool, true, false, ◌==◌, nat_lt, IsTrue, List, [], ◌∷◌, ◌++◌, length, map, Option, Some, None, option_map, slice_get, refl, subst, sym, ap, arith}
-use Rattle.std.specs.Prelude.{option_and_then, position}
+use Rattle.std.proofs.Common.{◌≡◌, ◌∙◌, ℕ, zero, suc, ◌+◌, ◌<◌, ◌≤◌, false, ◌==◌, nat_lt, IsTrue, List, [], ◌∷◌, length, Option, Some, None, option_map, slice_get, refl, subst, sym, ap, arith}
+use Rattle.std.specs.Prelude.{option_and_then}
 use Rattle.std.specs.Option.{option_map_or}
 use Rattle.std.specs.List.{list_any}
-use Rattle.std.proofs.lemmas.Option.{none-some, same_Some, slice_get_within, slice_get_past}
+use Rattle.std.proofs.lemmas.Option.{none-some, same_Some}
 use Rattle.std.proofs.lemmas.Bool.{lt-ltb}
 use Rattle.std.proofs.lemmas.List.{length-map}
 use Rattle.std.proofs.lemmas.List.Quantifiers.{position-Some}
-use Rattle.core_tree.specs.declared.program.Class.{Class}
 use Rattle.core_tree.specs.declared.program.Program.{Program}
 use Rattle.core_tree.specs.Types.{line_within, is_subclass}
-use Rattle.core_tree.specs.Types as core
 use Rattle.core_tree.specs.WellTyped.{superclass}
 use Rattle.java_syntax.specs.declared.class.FileTree.{FileTree}
 use Rattle.class_table.specs.declared.declaration.Declaration.{Declaration}
@@ -19,14 +17,11 @@ use Rattle.class_table.specs.declared.row.ClassTable.{ClassTable}
 use Rattle.class_table.specs.Names.{Name, same_name}
 use Rattle.class_table.specs.Ancestors.{climb, parent_in, parents_of, line_at}
 use Rattle.class_table.specs.Ancestors as table_line
-use Rattle.class_table.specs.Declarations.{declared_of}
-use Rattle.class_table.specs.Table.{row_of, rows_from, table_of}
+use Rattle.class_table.specs.Table.{row_of, rows_from}
 use Rattle.class_table.specs.TableFacts.{IsTable, IsRow, line_above}
 use Rattle.java_names.specs.declared.numbers.Numbers.{Numbers}
 use Rattle.java_names.specs.declared.symbol.Selector.{Selector}
-use Rattle.java_names.specs.declared.symbol.ClassSymbol.{ClassSymbol}
 use Rattle.java_names.specs.Lookups.{class_at, is_below}
-use Rattle.java_names.specs.Lookups as names
 use Rattle.java_names.specs.Numbers.{numbers_after, first_numbers}
 use Rattle.java_names.specs.Selectors.{selectors_of}
 use Rattle.java_names.specs.Symbols.{class_symbol, class_symbols, names_of, symbols_of}

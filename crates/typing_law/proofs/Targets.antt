@@ -1,5 +1,5 @@
 -- What an assignment writes to, and the operators of compound assignments (JLS 15.26).
-use Rattle.std.proofs.Common.{◌≡◌, ◌∙◌, ⊎_elim, ℕ, Bool, true, false, ◌||◌, ◌&&◌, IsTrue, List, [], ◌∷◌, ◌++◌, length, Option, Some, None, refl, subst, sym, ap, if◌then◌else◌}
+use Rattle.std.proofs.Common.{◌≡◌, ◌∙◌, ⊎_elim, ℕ, Bool, true, false, ◌||◌, ◌&&◌, IsTrue, [], length, Option, Some, refl, subst, sym, ap, if◌then◌else◌}
 use Rattle.std.specs.Prelude.{is_none}
 use Rattle.std.proofs.lemmas.Bool.{false≢true, or_cases, or_left, or_right, and_from}
 use denote.Hole.Carrier.{out, shown, hidden}
@@ -13,8 +13,7 @@ use Rattle.core_tree.specs.declared.expr.Expr.TheOpen.{Expr-F as Core-F}
 use Rattle.core_tree.specs.declared.expr.Expr.TheFolds.{fold_out-Expr, map-Expr}
 use Rattle.core_tree.specs.declared.program.Program.{Program}
 use Rattle.core_tree.specs.Types.{is_int, is_boolean, is_string, is_null, is_void, is_object, is_value_type}
-use Rattle.core_tree.specs.Typing.{Scope as CoreScope, PartType, has, has_text, ints, booleans, expr_node, type_of, target_type, operand_type, is_update, fits}
-use Rattle.core_tree.proofs.TypeNodes.{is_value_type-Void}
+use Rattle.core_tree.specs.Typing.{Scope as CoreScope, PartType, has, has_text, ints, booleans, expr_node, type_of, target_type, is_update}
 use Rattle.java_names.specs.declared.scope.Scope.{Scope}
 use Rattle.java_exprs.specs.declared.environment.Environment.{Environment}
 use Rattle.java_exprs.specs.declared.typed.Denotation.{Denotation}
@@ -28,9 +27,9 @@ use Rattle.typing_law.specs.Means.{IsPlace, IsRight, MeansForm, is_place, has_va
 use Rattle.typing_law.specs.Agrees.{Agrees}
 use Rattle.typing_law.proofs.TypeFacts as facts
 use Rattle.typing_law.proofs.Values.{value_not_void, values_text_or_object}
-use Rattle.typing_law.proofs.NoFaults.{unless_empty, only_if_empty, no_place}
+use Rattle.typing_law.proofs.NoFaults.{only_if_empty, no_place}
 use Rattle.typing_law.proofs.Standing.{has_texts}
-use Rattle.typing_law.proofs.Parts.{IsValue, wanted}
+use Rattle.typing_law.proofs.Parts.{IsValue}
 use Rattle.typing_law.proofs.Operators.{both, asked, bits_of, no_or, int_part, boolean_part}
 
 ints_int : ints (Some ty.Int) (Some ty.Int) ≡ true

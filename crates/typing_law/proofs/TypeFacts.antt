@@ -1,5 +1,5 @@
 -- What types are, by what is read of them.
-use Rattle.std.proofs.Common.{◌≡◌, ◌∙◌, ⊎_elim, ℕ, nat_lt, Bool, true, false, ◌||◌, ◌==◌, IsTrue, List, Option, Some, None, is_some, refl, subst, sym, ap}
+use Rattle.std.proofs.Common.{◌≡◌, ◌∙◌, ℕ, nat_lt, Bool, true, false, ◌||◌, ◌==◌, IsTrue, List, Option, Some, None, refl, subst, sym, ap}
 use Rattle.std.specs.Option.{option_map_or}
 use Rattle.std.proofs.lemmas.Option.{none-some, same_Some}
 use Rattle.std.proofs.lemmas.Bool.{false≢true}
@@ -12,7 +12,7 @@ use Rattle.core_tree.specs.declared.ty.Ty.TheViews.{roll-Ty, roll-out-Ty}
 use Rattle.core_tree.specs.declared.ty.Ty.TheOpen.{Ty-F}
 use Rattle.core_tree.specs.declared.ty.Ty.TheFolds.{fold-roll-Ty}
 use Rattle.core_tree.specs.declared.program.Class.{Class}
-use Rattle.core_tree.specs.Types.{class_of, elements_of, is_int, is_boolean, is_string, is_null, is_void, is_object, is_subclass, assignable_node, is_assignable, same_type_node, is_same_type, value_type_node, is_value_type}
+use Rattle.core_tree.specs.Types.{class_of, elements_of, is_int, is_boolean, is_string, is_null, is_void, is_object, is_subclass, assignable_node, is_assignable, value_type_node, is_value_type}
 
 -- ---- what a type is, by what is read of it
 
@@ -118,7 +118,6 @@ class_of_array f = refl
 pub elements_of_array : (f : Ty) → elements_of (type.Array f) ≡ Some f
 unfolding out-Ty out shown-the_row-Ty-0 shown hidden
 elements_of_array f = refl
-
 
 -- ---- what is asked of each type
 

@@ -1,13 +1,13 @@
 -- Which types values have.
-use Rattle.std.proofs.Common.{◌≡◌, ◌∙◌, ⊎_elim, ℕ, nat_lt, Bool, true, false, ◌||◌, IsTrue, List, length, Option, Some, None, refl, subst, sym, ap}
+use Rattle.std.proofs.Common.{◌≡◌, ◌∙◌, ⊎_elim, ℕ, nat_lt, true, false, ◌||◌, IsTrue, List, length, sym, ap}
 use Rattle.std.proofs.lemmas.Bool.{false≢true, or_cases, or_left, or_right}
 use Rattle.core_tree.specs.declared.ty.Ty.{Ty}
 use Rattle.core_tree.specs.declared.ty.Ty.TheVariants as ty
 use Rattle.core_tree.specs.declared.ty.Ty.TheViews as type
 use Rattle.core_tree.specs.declared.program.Class.{Class}
 use Rattle.core_tree.specs.declared.program.Program.{Program}
-use Rattle.core_tree.specs.Types.{class_of, elements_of, is_int, is_boolean, is_string, is_null, is_void, is_object, is_assignable, is_value_type}
-use Rattle.core_tree.proofs.TypeNodes.{is_value_type-Int, is_value_type-Bool, is_value_type-Text, is_value_type-Class, is_value_type-Array, is_value_type-Null, is_value_type-Void, is_assignable-Text, is_assignable-Null}
+use Rattle.core_tree.specs.Types.{is_int, is_boolean, is_string, is_null, is_void, is_object, is_assignable, is_value_type}
+use Rattle.core_tree.proofs.TypeNodes.{is_value_type-Int, is_value_type-Bool, is_value_type-Text, is_value_type-Class, is_value_type-Array, is_value_type-Void, is_assignable-Text, is_assignable-Null}
 use Rattle.typing_law.specs.Means.{has_values}
 use Rattle.typing_law.proofs.TypeFacts as facts
 

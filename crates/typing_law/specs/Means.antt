@@ -1,5 +1,5 @@
 -- What the resolved form of an expression must be, given what the expression denotes.
-use Rattle.std.specs.Prelude.{◌≡◌, ℕ, Bool, true, false, ◌||◌, IsTrue, length, Option, Some, None, if◌then◌else◌, ◌⊎◌}
+use Rattle.std.specs.Prelude.{◌≡◌, Bool, true, false, ◌||◌, IsTrue, length, Option, Some, None, if◌then◌else◌, ◌⊎◌}
 use Rattle.core_tree.specs.declared.ty.Ty.{Ty}
 use Rattle.core_tree.specs.declared.ty.Ty.TheVariants as ty
 use Rattle.core_tree.specs.declared.expr.Expr.{Expr as Core, out-Expr}
@@ -9,7 +9,6 @@ use Rattle.core_tree.specs.Types.{is_null, is_value_type}
 use Rattle.core_tree.specs.Typing.{Scope, PartType, has_text, type_of}
 use Rattle.java_exprs.specs.declared.typed.Denotation.{Denotation}
 use Rattle.java_exprs.specs.declared.typed.Denotation.TheVariants as denotes
-use Rattle.java_exprs.specs.declared.typed.Printing.{Printing}
 use Rattle.java_exprs.specs.declared.typed.Form.{Form}
 use Rattle.java_exprs.specs.declared.typed.Form.TheVariants as form
 use Rattle.java_exprs.specs.Attr.{Attr}

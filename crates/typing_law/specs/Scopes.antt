@@ -1,5 +1,5 @@
 -- What is known of a scope, and what a statement that is read in it makes of it.
-use Rattle.std.specs.Prelude.{◌≡◌, ℕ, Bool, true, false, nat_lt, IsTrue, List, ◌++◌, length, Option, Some, slice_get}
+use Rattle.std.specs.Prelude.{◌≡◌, ℕ, false, nat_lt, IsTrue, List, ◌++◌, length, Some, slice_get}
 use Rattle.std.specs.List.{list_all}
 use Rattle.core_tree.specs.declared.ty.Ty.{Ty}
 use Rattle.core_tree.specs.declared.program.Program.{Program}

@@ -1,5 +1,5 @@
 -- The initialiser of an instance field.
-use Rattle.std.specs.Prelude.{ℕ, Bool, true}
+use Rattle.std.specs.Prelude.{Bool, true}
 use Rattle.std.specs.Option.{option_map_or}
 use Rattle.core_tree.specs.declared.program.Field.{Field}
 use Rattle.core_tree.specs.declared.program.Program.{Program}

@@ -38,7 +38,7 @@ use Rattle.typing_law.proofs.Tables.{row_at}
 numbers_one : (n k : ℕ) → n + 1 + k ≡ n + suc k
 numbers_one n k = omega arith
 
-declaration_at : (known : List Name) (n : ℕ) (ks : List ClassTree) (j : ℕ) → slice_get (declarations known n ks) j ≡ option_map (declaration known (n + j)) (slice_get ks j)
+pub declaration_at : (known : List Name) (n : ℕ) (ks : List ClassTree) (j : ℕ) → slice_get (declarations known n ks) j ≡ option_map (declaration known (n + j)) (slice_get ks j)
 declaration_at known n [] j = refl
 declaration_at known n (k ∷ ks) zero = let e : n ≡ n + 0 = omega arith in ap (λ m. Some (declaration known m k)) e
 declaration_at known n (k ∷ ks) (suc j) = declaration_at known (n + 1) ks j ∙ ap (λ m. option_map (declaration known m) (slice_get ks j)) (numbers_one n j)

@@ -32,3 +32,4 @@ mod FileChosen
 mod FileLines
 mod FileMessages
 mod FileLookups
+mod FileFields

@@ -24,9 +24,10 @@ ghost use Rattle.typing_law.specs.Agrees.{Agrees, AgreesOnCalls, AgreesOnScope, 
 ghost use Rattle.typing_law.specs.Means.{IsRight};
 ghost use Rattle.typing_law.specs.Starts.{start_fits};
 
-/// In a file that breaks none of the rules 1 to 9, and whose declarations are in order, superclasses, methods and constructors are
-/// in its program as its symbols say. Where all that is known of a file agrees so with a program, all that breaks no rule is well typed in the program: an expression has
-/// the type that the rules give it; a method, a constructor, one that is made, and a field's initialiser are well typed.
+/// What breaks no rule is well typed. `calls`: in a file that breaks none of the rules 1 to 9, and whose declarations are in
+/// order, its program has the superclasses, methods and constructors that its symbols say. The other clauses speak of symbols
+/// that agree with a program in all: an expression that breaks no rule has in the program the type that the rules give it, and
+/// a method, a constructor, one that is made, and a field's initialiser are well typed.
 pub fn members_are_typed()
     ensures calls { (tree : WholeFile) (constants : List (ℕ × Option Literal)) → IsTable (table_of tree) → Clear (Breaks tree) → declared_faults (table_of tree) tree ≡ [] →
         AgreesOnCalls (with_constants (first_env (table_of tree) tree) constants) (program_in (with_constants (first_env (table_of tree) tree) constants) (table_of tree) tree) }

@@ -3,6 +3,7 @@ use Rattle.std.proofs.Common.{◌≡◌, ◌∙◌, ℕ, Bool, List, map, sym, a
 use Rattle.java_syntax.specs.declared.name.Ident.{Ident}
 use Rattle.java_syntax.specs.declared.name.TypeTree.{TypeTree}
 use Rattle.java_syntax.specs.declared.name.BaseType.{BaseType}
+use Rattle.java_syntax.specs.declared.fault.CheckError.{CheckError}
 use Rattle.java_syntax.specs.declared.operator.UnaryOp.{UnaryOp}
 use Rattle.java_syntax.specs.declared.operator.BinaryOp.{BinaryOp}
 use Rattle.java_syntax.specs.declared.expression.Expr.{Expr}
@@ -10,9 +11,10 @@ use Rattle.java_syntax.specs.declared.expression.Expr.TheVariants as tree
 use Rattle.java_syntax.specs.declared.expression.Expr.TheOpen.{Expr-F}
 use Rattle.java_syntax.specs.declared.expression.Expr.TheFolds.{fold-Expr, fold-roll-Expr}
 use Rattle.java_names.specs.declared.scope.Scope.{Scope}
-use Rattle.java_exprs.specs.Attr.{Attr}
+use Rattle.java_exprs.specs.Attr.{Attr, value_faults, values_faults}
 use Rattle.java_exprs.specs.declared.environment.Environment.{Environment}
-use Rattle.java_exprs.specs.Checks.{attr, attr_at}
+use Rattle.java_exprs.specs.Checks.{Refuses, attr, attr_at}
+use Rattle.java_exprs.proofs.RulesLemmas.{refuses_left, refuses_right}
 
 pub attr_number : (env : Environment) (s : Scope) (at : ℕ) (n : ℕ) → attr env s (tree.Number at n) ≡ attr_at env s (Expr-F.Number at n)
 unfolding attr
@@ -110,4 +112,45 @@ pub ruleset attrs = (
   attr_binary,
   attr_instance_of,
   attr_conditional,
+)
+
+-- ---- a fault of a part is a fault of the whole
+
+pub in_call : (env : Environment) (s : Scope) (m : Ident) (xs : List Expr) (e : CheckError) → Refuses (values_faults (map (attr env s) xs)) e → Refuses (attr env s (tree.Call m xs)).faults e
+in_call env s m xs e h = rw (attr_call env s m xs) (refuses_left _ _ e h)
+
+pub in_paren : (env : Environment) (s : Scope) (at : ℕ) (x : Expr) (e : CheckError) → Refuses (value_faults (attr env s x)) e → Refuses (attr env s (tree.Paren at x)).faults e
+in_paren env s at x e h = rw (attr_paren env s at x) (refuses_left _ _ e h)
+
+pub in_super : (env : Environment) (s : Scope) (at : ℕ) (m : Ident) (xs : List Expr) (e : CheckError) → Refuses (values_faults (map (attr env s) xs)) e → Refuses (attr env s (tree.Super at m xs)).faults e
+in_super env s at m xs e h = rw (attr_super env s at m xs) (refuses_left _ _ e h)
+
+pub in_new : (env : Environment) (s : Scope) (at : ℕ) (c : Ident) (xs : List Expr) (e : CheckError) → Refuses (values_faults (map (attr env s) xs)) e → Refuses (attr env s (tree.New at c xs)).faults e
+in_new env s at c xs e h = rw (attr_new env s at c xs) (refuses_left _ _ e h)
+
+pub in_size : (env : Environment) (s : Scope) (at : ℕ) (base : BaseType) (x : Expr) (dimensions : ℕ) (e : CheckError) → Refuses (value_faults (attr env s x)) e → Refuses (attr env s (tree.NewArray at base x dimensions)).faults e
+in_size env s at base x dimensions e h = rw (attr_new_array env s at base x dimensions) (refuses_left _ _ e h)
+
+pub in_field : (env : Environment) (s : Scope) (o : Expr) (f : Ident) (e : CheckError) → Refuses ((attr env s o).faults) e → Refuses (attr env s (tree.Field o f)).faults e
+in_field env s o f e h = rw (attr_field env s o f) (refuses_left _ _ e (refuses_left _ _ e h))
+
+pub in_cast : (env : Environment) (s : Scope) (at : ℕ) (t : TypeTree) (x : Expr) (e : CheckError) → Refuses (value_faults (attr env s x)) e → Refuses (attr env s (tree.Cast at t x)).faults e
+in_cast env s at t x e h = rw (attr_cast env s at t x) (refuses_left _ _ e h)
+
+pub in_instance_of : (env : Environment) (s : Scope) (x : Expr) (t : TypeTree) (e : CheckError) → Refuses (value_faults (attr env s x)) e → Refuses (attr env s (tree.InstanceOf x t)).faults e
+in_instance_of env s x t e h = rw (attr_instance_of env s x t) (refuses_left _ _ e h)
+
+-- where a value is needed
+pub in_value : (a : Attr) (e : CheckError) → Refuses a.faults e → Refuses (value_faults a) e
+in_value a e h = refuses_left _ _ e h
+
+pub ruleset below = (
+  in_call,
+  in_paren,
+  in_super,
+  in_new,
+  in_size,
+  in_field,
+  in_cast,
+  in_instance_of,
 )

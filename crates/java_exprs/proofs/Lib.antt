@@ -3,4 +3,9 @@ pub mod TypeLemmas
 pub mod RulesLemmas
 pub mod NumberLemmas
 pub mod AttrLemmas
+pub mod ConstantLemmas
+pub mod CreationLemmas
+pub mod FieldLemmas
 pub mod Rows
+pub mod ArgumentLemmas
+pub mod CallLemmas

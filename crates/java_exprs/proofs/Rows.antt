@@ -9,26 +9,22 @@ use Rattle.core_tree.specs.declared.expr.Expr.TheVariants as core
 use Rattle.java_syntax.specs.declared.name.Ident.{Ident}
 use Rattle.java_syntax.specs.declared.name.TypeTree.{TypeTree}
 use Rattle.java_syntax.specs.declared.name.BaseType.TheVariants.{Class}
-use Rattle.java_syntax.specs.declared.operator.UnaryOp.TheVariants as unary
 use Rattle.java_syntax.specs.declared.operator.BinaryOp.TheVariants as binary
 use Rattle.java_syntax.specs.declared.expression.Expr.TheOpen.{Expr-F}
 use Rattle.java_names.specs.declared.symbol.ClassSymbol.{ClassSymbol}
 use Rattle.java_names.specs.declared.symbol.FieldSymbol.{FieldSymbol}
-use Rattle.java_names.specs.declared.symbol.Symbols.{Symbols}
 use Rattle.java_names.specs.declared.scope.Scope.{Scope}
 use Rattle.java_names.specs.Scope.{first_scope, declared}
 use Rattle.java_exprs.specs.declared.environment.Environment.{Environment}
-use Rattle.java_exprs.specs.declared.literal.Literal.TheVariants as literal
-use Rattle.java_exprs.specs.declared.folded.Folded.{Folded}
 use Rattle.java_exprs.specs.declared.folded.Folded.TheVariants as folded
 use Rattle.java_exprs.specs.declared.typed.Denotation.{Denotation}
 use Rattle.java_exprs.specs.declared.typed.Denotation.TheVariants as denotes
 use Rattle.java_exprs.specs.declared.typed.Form.{Form}
 use Rattle.java_exprs.specs.declared.typed.Form.TheVariants as form
 use Rattle.java_exprs.specs.Attr.{Attr, value_faults, negated_faults, prefix_faults}
-use Rattle.java_exprs.specs.Operators.{gives_int, gives_bool, of_parts, binary_folded, choice_folded}
-use Rattle.java_exprs.proofs.TypeLemmas.{assignable-Class, assignable-Int, assignable-Bool, assignable-Array, assignable-Null}
-use Rattle.java_exprs.specs.Rules.{rule_10, rule_11, rule_12, rule_13, rule_14, rule_15, rule_16, rule_19, rule_21, broken_here}
+use Rattle.java_exprs.specs.Operators.{gives_int, gives_bool, of_parts, binary_folded}
+use Rattle.java_exprs.proofs.TypeLemmas.{assignable-Class, assignable-Int, assignable-Array, assignable-Null}
+use Rattle.java_exprs.specs.Rules.{rule_10, rule_11, rule_12, rule_13, rule_14, rule_15, rule_16, rule_19, rule_21}
 
 -- ---- what the rows speak of
 

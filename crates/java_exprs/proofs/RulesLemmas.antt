@@ -6,7 +6,7 @@ use Rattle.java_syntax.specs.declared.fault.CheckError.TheVariants as error
 use Rattle.class_table.specs.Faults.{Blames, OfRule}
 use Rattle.java_exprs.specs.declared.value.Value.{Value}
 use Rattle.java_exprs.specs.Attr.{Attr, of_rule, value_faults, values_faults}
-use Rattle.java_exprs.specs.Checks.{Has, Refuses, of_value, of_values}
+use Rattle.java_exprs.specs.Checks.{Has, Refuses, of_values}
 
 pub has_left : (xs ys : List Fault) (f : Fault) → Has xs f → Has (xs ++ ys) f
 has_left [] ys f h = elim h [ ]
@@ -30,7 +30,7 @@ has_here : (k : ℕ) (ats : List ℕ) (more : List Fault) (f : Fault) → Has (o
 has_here k [] more f h = elim h [ ]
 has_here k (a ∷ ats) more f h = elim h [ inl e ↦ inl e | inr m ↦ inr (has_here k ats more f m) ]
 
-has_there : (k : ℕ) (ats : List ℕ) (more : List Fault) (f : Fault) → Has more f → Has (of_rule k ats more) f
+pub has_there : (k : ℕ) (ats : List ℕ) (more : List Fault) (f : Fault) → Has more f → Has (of_rule k ats more) f
 has_there k [] more f h = h
 has_there k (a ∷ ats) more f h = inr (has_there k ats more f h)
 

@@ -1,6 +1,5 @@
 -- What is asked of a type, by its form.
-use Rattle.std.proofs.Common.{◌≡◌, ◌∙◌, ℕ, Bool, true, false, Option, Some, None, refl, sym, ap}
-use Rattle.std.proofs.lemmas.Option.{none-some}
+use Rattle.std.proofs.Common.{◌≡◌, ◌∙◌, ℕ, true, false, Option, Some, None, refl, sym, ap}
 use denote.Hole.Carrier.{out, shown, hidden}
 use Rattle.core_tree.specs.declared.ty.Ty.{Ty, out-Ty}
 use Rattle.core_tree.specs.declared.ty.Ty.TheBlock.{shown-the_row-Ty-0}
@@ -8,7 +7,7 @@ use Rattle.core_tree.specs.declared.ty.Ty.TheVariants as ty
 use Rattle.core_tree.specs.declared.ty.Ty.TheViews as type
 use Rattle.core_tree.specs.declared.ty.Ty.TheViews.{roll-Ty, roll-out-Ty}
 use Rattle.core_tree.specs.declared.ty.Ty.TheOpen.{Ty-F}
-use Rattle.core_tree.specs.Types.{class_of, elements_of, is_int, is_boolean, is_string, is_null, is_void, is_object}
+use Rattle.core_tree.specs.Types.{class_of, elements_of, is_int, is_boolean, is_string, is_null, is_void}
 
 -- ---- the form that is asked for
 

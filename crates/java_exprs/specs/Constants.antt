@@ -1,8 +1,7 @@
 -- The values of constants: what an initialiser is, by what its parts are (JLS 15.29). It is made of literals, constants that
 -- are declared earlier in the file, and operators, casts and `instanceof` being no such operators.
-use Rattle.std.specs.Prelude.{ℕ, pos, nat_le, if◌then◌else◌, ◌==◌, List, [], ◌∷◌, Option, Some, None, find, option_map}
+use Rattle.std.specs.Prelude.{pos, nat_le, if◌then◌else◌, ◌==◌, [], ◌∷◌, Option, Some, None, find, option_map}
 use Rattle.pb_int.specs.Int32.{wrap}
-use Rattle.java_syntax.specs.declared.name.Ident.{Ident}
 use Rattle.java_syntax.specs.declared.expression.Expr.{Expr}
 use Rattle.java_syntax.specs.declared.expression.Expr.TheOpen.{Expr-F}
 use Rattle.java_syntax.specs.declared.expression.Expr.TheFolds.{fold-Expr}

@@ -1,11 +1,11 @@
 -- What an expression denotes (JLS 6.5, 15). The table says nothing of faults: it is silent only where a name that decides
 -- is unknown.
-use Rattle.std.specs.Prelude.{ℕ, Bool, true, false, ◌||◌, ◌&&◌, ◌==◌, not, List, [], ◌∷◌, length, Option, Some, None, option_map, option_and_then, is_none, is_some, if◌then◌else◌, codes}
-use Rattle.std.specs.Option.{option_map_or, option_or}
+use Rattle.std.specs.Prelude.{Bool, false, ◌||◌, ◌&&◌, ◌==◌, not, List, length, Option, Some, None, option_map, option_and_then, is_some, if◌then◌else◌, codes}
+use Rattle.std.specs.Option.{option_map_or}
 use Rattle.core_tree.specs.declared.ty.Ty.{Ty}
 use Rattle.core_tree.specs.declared.ty.Ty.TheVariants as ty
 use Rattle.core_tree.specs.declared.ty.Ty.TheViews as type
-use Rattle.core_tree.specs.Types.{elements_of, is_int, is_boolean, is_string}
+use Rattle.core_tree.specs.Types.{elements_of, is_boolean, is_string}
 use Rattle.java_syntax.specs.declared.name.Ident.{Ident}
 use Rattle.java_syntax.specs.declared.operator.UnaryOp.{UnaryOp}
 use Rattle.java_syntax.specs.declared.operator.UnaryOp.TheVariants as unary

@@ -8,3 +8,6 @@ pub mod Resolved
 pub mod Rules
 pub mod Checks
 pub mod Constants
+pub mod Calls
+pub mod Fields
+pub mod Creation

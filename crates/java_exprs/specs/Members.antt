@@ -1,6 +1,5 @@
 -- Through what a field or a method is named: `this`, `super`, a class or an object (JLS 15.11, 15.12).
 use Rattle.std.specs.Prelude.{ℕ, Bool, true, false, not, ◌||◌, List, Option, Some, None, option_map, option_and_then, is_some, if◌then◌else◌}
-use Rattle.core_tree.specs.declared.ty.Ty.{Ty}
 use Rattle.core_tree.specs.declared.expr.Expr.{Expr as Core}
 use Rattle.core_tree.specs.declared.expr.Expr.TheVariants as core
 use Rattle.core_tree.specs.Types.{class_of}

@@ -1,9 +1,8 @@
 -- What an expression resolves to. Where a name is unknown, and where nothing is denoted that has a value or is called, it
 -- means nothing.
-use Rattle.std.specs.Prelude.{ℕ, ℤ, pos, Bool, true, false, ◌||◌, List, [], ◌∷◌, map, length, Option, Some, None, slice_get, unwrap_or, if◌then◌else◌}
+use Rattle.std.specs.Prelude.{ℕ, pos, Bool, ◌||◌, List, [], ◌∷◌, map, length, Option, Some, None, slice_get, unwrap_or, if◌then◌else◌}
 use Rattle.std.specs.Option.{option_map_or}
 use Rattle.pb_int.specs.Int32.{wrap}
-use Rattle.core_tree.specs.declared.ty.Ty.{Ty}
 use Rattle.core_tree.specs.declared.ty.Ty.TheVariants as ty
 use Rattle.core_tree.specs.declared.operator.UnOp.{UnOp}
 use Rattle.core_tree.specs.declared.operator.UnOp.TheVariants as un
@@ -20,7 +19,7 @@ use Rattle.java_syntax.specs.declared.operator.BinaryOp.{BinaryOp}
 use Rattle.java_syntax.specs.declared.operator.BinaryOp.TheVariants as binary
 use Rattle.java_syntax.specs.declared.place.TokenPlace.{TokenPlace}
 use Rattle.java_syntax.specs.declared.expression.Expr.TheOpen.{Expr-F}
-use Rattle.class_table.specs.Names.{Name, same_name}
+use Rattle.class_table.specs.Names.{Name}
 use Rattle.java_names.specs.declared.scope.Scope.{Scope}
 use Rattle.java_names.specs.declared.symbol.MethodSymbol.{MethodSymbol}
 use Rattle.java_exprs.specs.declared.environment.Environment.{Environment}
@@ -28,11 +27,10 @@ use Rattle.java_exprs.specs.declared.literal.Literal.{Literal}
 use Rattle.java_exprs.specs.declared.literal.Literal.TheVariants as literal
 use Rattle.java_exprs.specs.declared.typed.Denotation.{Denotation}
 use Rattle.java_exprs.specs.declared.typed.Denotation.TheVariants as denotes
-use Rattle.java_exprs.specs.declared.through.Through.{Through}
 use Rattle.java_exprs.specs.declared.through.Through.TheVariants as through
 use Rattle.java_exprs.specs.Attr.{Attr, Node, value_type}
 use Rattle.java_exprs.specs.Members.{Naming, Calling, naming, calling, named_member}
-use Rattle.java_exprs.specs.Denotes.{is_text, is_print, equals_name}
+use Rattle.java_exprs.specs.Denotes.{is_text}
 use Rattle.java_exprs.specs.Lookups.{method_of, class_named, local_named, maker_of, type_named, elements_named, constant_at}
 
 abbrev pub cores : List Attr → List Core

@@ -7,7 +7,6 @@ use Rattle.core_tree.specs.declared.ty.Ty.TheVariants as ty
 use Rattle.core_tree.specs.Types.{elements_of, is_int, is_boolean, is_string, is_null, is_void, is_object}
 use Rattle.java_syntax.specs.declared.fault.Fault.{Fault}
 use Rattle.java_syntax.specs.declared.name.Ident.{Ident}
-use Rattle.java_syntax.specs.declared.name.TypeTree.{TypeTree}
 use Rattle.java_syntax.specs.declared.operator.UnaryOp.{UnaryOp}
 use Rattle.java_syntax.specs.declared.operator.UnaryOp.TheVariants as unary
 use Rattle.java_syntax.specs.declared.operator.BinaryOp.{BinaryOp}
@@ -15,7 +14,6 @@ use Rattle.java_syntax.specs.declared.operator.BinaryOp.TheVariants as binary
 use Rattle.java_syntax.specs.declared.expression.Expr.TheOpen.{Expr-F}
 use Rattle.class_table.specs.Names.{Name, same_name}
 use Rattle.java_names.specs.declared.scope.Scope.{Scope}
-use Rattle.java_names.specs.declared.symbol.FieldSymbol.{FieldSymbol}
 use Rattle.java_names.specs.declared.symbol.MethodSymbol.{MethodSymbol}
 use Rattle.java_names.specs.Lookups.{is_accessible}
 use Rattle.java_exprs.specs.declared.environment.Environment.{Environment}

@@ -1,5 +1,5 @@
 -- Which values fit which types, by the superclasses of a file's classes (JLS 4.10, 5.2).
-use Rattle.std.specs.Prelude.{Bool, false, ◌||◌, ◌==◌, Option, Some, None, if◌then◌else◌}
+use Rattle.std.specs.Prelude.{Bool, false, ◌||◌, ◌==◌, if◌then◌else◌}
 use Rattle.std.specs.Option.{option_map_or}
 use Rattle.core_tree.specs.declared.ty.Ty.{Ty}
 use Rattle.core_tree.specs.declared.ty.Ty.TheOpen.{Ty-F}

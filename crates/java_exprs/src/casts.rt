@@ -1,4 +1,4 @@
-//! Casts, `instanceof` and new arrays (JLS 15.10.1, 15.16, 15.20.2).
+//! Casts and `instanceof` (JLS 15.16, 15.20.2).
 
 ghost use Rattle.std.specs.Prelude.{◌≡◌, [], Some, IfOk, IfErr, OnOk};
 ghost use Rattle.java_syntax.specs.declared.expression.Expr.TheOpen.{Expr-F};

@@ -17,3 +17,16 @@ impl Model for Constants {
 
     ghost view = { λ constants. constants.values.entries };
 }
+
+impl Constants {
+    ghost use Rattle.std.specs.Prelude.{◌≡◌, ◌==◌, find, option_map};
+    ghost use Rattle.std.specs.Option.{option_copied};
+
+    /// The constant whose name is this token, with its value; `None` where no such constant was read. It takes no memory.
+    #[tactic(auto, using(crate::proofs::ConstantLemmas::lookups))]
+    pub fn get(&self, at: u32) -> Option<&Option<Literal>>
+        ensures { option_copied result ≡ option_map (λ c. c.1) (find (λ c. c.0 == at) self.now) }
+    {
+        self.values.get(&at)
+    }
+}

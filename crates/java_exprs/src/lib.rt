@@ -1,16 +1,35 @@
-//! Expressions of a file, checked and resolved.
+//! Expressions of a file, checked and resolved: what an expression denotes, what it resolves to, and which of the rules 10
+//! to 16, 19 and 21 it breaks.
+//!
+//! The one public contract is that of `expression::expr`, `Checks (attr env scope e)`. Read `specs/Attr` (what is known of an
+//! expression), `specs/Denotes`, `specs/Rules` and `specs/Resolved` (each question as a table over one node), and
+//! `specs/Checks`; then `expression`, with a module for each family of nodes: `literals`, `names`, `fields`, `calls`,
+//! `creation`, `operators`, `unary`, `casts`, `simple`.
 #![tactic(auto)]
 
+mod arguments;
 mod assignability;
+mod callee;
+mod calls;
 mod casts;
 mod constants;
+mod creation;
 mod environment;
+pub mod expression;
 mod fault;
+mod fields;
 mod folded;
 mod forms;
+mod invocation;
+mod library_calls;
+mod library_names;
 mod literal;
 mod literals;
+mod members;
+mod names;
 mod operators;
+mod qualifier;
+mod receiver;
 mod simple;
 mod through;
 mod typed;

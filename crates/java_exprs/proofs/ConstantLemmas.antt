@@ -1,0 +1,17 @@
+-- Lemmas on the constants that were read.
+use Rattle.std.proofs.Common.{◌≡◌, ◌∙◌, ℕ, ◌==◌, Bool, true, false, cond, nat_eq, List, [], ◌∷◌, Option, Some, None, find, option_map, refl, ap, arith}
+use Rattle.std.specs.Map.{lookup}
+
+same_number : (a b : ℕ) → nat_eq a b ≡ (b == a)
+same_number a b = grind arith
+
+chosen : {X : Type 0} (b : Bool) (e : ℕ × X) (rest : Option (ℕ × X)) → cond b (Some e.1) (option_map (λ c. c.1) rest) ≡ option_map (λ c. c.1) (cond b (Some e) rest)
+chosen true e rest = refl
+chosen false e rest = refl
+
+-- the value of the first entry with a key, found by another test
+pub found_value : {X : Type 0} (at : ℕ) (entries : List (ℕ × X)) → lookup (nat_eq at) entries ≡ option_map (λ c. c.1) (find (λ c. c.0 == at) entries)
+found_value at [] = refl
+found_value at (e ∷ es) = rw (same_number at e.0, found_value at es) (chosen (e.0 == at) e (find (λ c. c.0 == at) es))
+
+pub ruleset lookups = (found_value)

@@ -1,0 +1,213 @@
+//! Calls (JLS 15.12).
+
+ghost use Rattle.std.specs.Prelude.{◌≡◌, Some, IfOk, IfErr};
+ghost use Rattle.core_tree.specs.declared.expr.Expr.TheVariants as core;
+ghost use Rattle.java_syntax.specs.declared.expression.Expr.TheOpen.{Expr-F};
+ghost use Rattle.java_exprs.specs.declared.qualifier.Qualifier.TheVariants as qualifier;
+ghost use Rattle.java_exprs.specs.declared.through.Through.TheVariants as through;
+ghost use Rattle.java_exprs.specs.Calls.{calling_of, call_attr, qualifier_of};
+ghost use Rattle.java_exprs.specs.Checks.{Checks, attr_at, clean, of_value, of_values};
+ghost use Rattle.java_exprs.specs.Lookups as names;
+
+use crate::callee::callee;
+use crate::environment::Environment;
+use crate::fault::fault;
+use crate::forms::{class_of, is_void};
+use crate::invocation::invocation;
+use crate::library_calls::{print, text_call};
+use crate::qualifier::{Qualifier, qualifier_of};
+use crate::receiver::Receiver;
+use crate::through::Through;
+use crate::typed::{Denotation, Form, Typed};
+use crate::value::Value;
+use core_tree::{Expr, Ty};
+use java_names::Scope;
+use java_syntax::{CheckError, Ident};
+use sqlite_items::Items;
+use std::alloc::Global;
+
+// What a call of a method with this result gives.
+fn answer(alloc: Global, ty: &Ty) -> Result<Denotation, CheckError>
+    ensures denotes { IfOk result (λ d. d ≡ names.answer_denotes ty.now) }
+    ensures memory { IfErr result (λ e. e ≡ CheckError.OutOfMemory) }
+{
+    if is_void(ty) {
+        return Ok(Denotation::Nothing);
+    }
+    match ty.copy(alloc) {
+        Ok(ty) => Ok(Denotation::Value(ty)),
+        Err(_) => Err(CheckError::OutOfMemory),
+    }
+}
+
+// A call of the method of that name in the receiver's class.
+fn called(
+    alloc: Global,
+    env: &Environment,
+    scope: &Scope,
+    receiver: Receiver,
+    object: Expr,
+    m: &Ident,
+    arguments: Items<Value>,
+) -> Result<Typed, CheckError>
+    ensures { Checks (call_attr env.now scope.now receiver.at (calling_of receiver object m.now arguments)) result }
+{
+    let found = callee(env, scope, receiver, m, arguments.as_slice())?;
+    let denotes = answer(alloc, found.answer.get())?;
+    let core = invocation(alloc, env, receiver, object, m, arguments, found)?;
+    Ok(Typed {
+        at: receiver.at,
+        denotes,
+        form: Form::Call,
+        needs_minus: false,
+        core,
+    })
+}
+
+/// `m(..)`, a method of the class that the call stands in.
+///
+/// # Errors
+/// `Fault` of rules 10 to 14, at the method's name or at an argument. `OutOfMemory` where there is no memory left.
+#[tactic(auto, using(crate::proofs::CallLemmas::call_checks))]
+pub fn call(
+    alloc: Global,
+    env: &Environment,
+    scope: &Scope,
+    m: &Ident,
+    arguments: Items<Value>,
+) -> Result<Typed, CheckError>
+    ensures { Checks (attr_at env.now scope.now (Expr-F.Call m.now (of_values arguments))) result }
+{
+    let receiver = Receiver {
+        at: m.at,
+        through: Through::This,
+        class: scope.class,
+    };
+    called(alloc, env, scope, receiver, Expr::This, m, arguments)
+}
+
+// The superclass of a class; `None` of `Object` alone.
+fn superclass(env: &Environment, class: u32) -> Option<u32>
+    ensures { result ≡ names.superclass_of env.now class }
+{
+    match env.symbols.class(class) {
+        Some(symbol) => symbol.parent,
+        None => None,
+    }
+}
+
+/// `super.m(..)`, where `at` is the place of `super`.
+///
+/// # Errors
+/// `Fault` of rule 14 at `super` where there is no `this`, and of rules 10 to 13 at the method's name or at an argument.
+/// `OutOfMemory` where there is no memory left.
+#[tactic(auto, using(crate::proofs::CallLemmas::super_checks, crate::proofs::CallLemmas::super_in_static))]
+pub fn super_call(
+    alloc: Global,
+    env: &Environment,
+    scope: &Scope,
+    at: u32,
+    m: &Ident,
+    arguments: Items<Value>,
+) -> Result<Typed, CheckError>
+    ensures { Checks (attr_at env.now scope.now (Expr-F.Super at m.now (of_values arguments))) result }
+{
+    if scope.is_static {
+        return Err(fault(14, at));
+    }
+    // No body stands in `Object`, the one class without a superclass.
+    let Some(class) = superclass(env, scope.class) else {
+        return Err(CheckError::OutOfMemory);
+    };
+    let receiver = Receiver {
+        at,
+        through: Through::Super,
+        class,
+    };
+    called(alloc, env, scope, receiver, Expr::This, m, arguments)
+}
+
+// A call behind a class, whose name is at token `at`.
+fn behind_class(
+    alloc: Global,
+    env: &Environment,
+    scope: &Scope,
+    at: u32,
+    class: u32,
+    m: &Ident,
+    arguments: Items<Value>,
+) -> Result<Typed, CheckError>
+    ensures { Checks (call_attr env.now scope.now at (calling_of (record { at = at; through = through.Class; class = class }) core.This m.now arguments)) result }
+{
+    let receiver = Receiver {
+        at,
+        through: Through::Class,
+        class,
+    };
+    called(alloc, env, scope, receiver, Expr::This, m, arguments)
+}
+
+// A call behind a value.
+#[tactic(auto, using(crate::proofs::CallLemmas::object_checks, crate::proofs::CallLemmas::text_checks))]
+fn behind_value(
+    alloc: Global,
+    env: &Environment,
+    scope: &Scope,
+    o: Value,
+    m: &Ident,
+    arguments: Items<Value>,
+) -> Result<Typed, CheckError>
+    ensures { Checks (attr_at env.now scope.now (Expr-F.Method (of_value o) m.now (of_values arguments))) result }
+{
+    match class_of(&o.ty) {
+        Some(class) => {
+            let receiver = Receiver {
+                at: o.at,
+                through: Through::Object,
+                class,
+            };
+            called(alloc, env, scope, receiver, o.core, m, arguments)
+        }
+        None => text_call(alloc, env, o, m, arguments),
+    }
+}
+
+// A call behind a value, or behind a call without a result.
+#[tactic(auto, using(crate::proofs::CallLemmas::value_checks, crate::proofs::CallLemmas::value_refused))]
+fn behind_part(
+    alloc: Global,
+    env: &Environment,
+    scope: &Scope,
+    o: Typed,
+    m: &Ident,
+    arguments: Items<Value>,
+) -> Result<Typed, CheckError>
+    requires { qualifier_of o.denotes ≡ Some qualifier.Value }
+    ensures { Checks (attr_at env.now scope.now (Expr-F.Method (clean o) m.now (of_values arguments))) result }
+{
+    let o = o.value()?;
+    behind_value(alloc, env, scope, o, m, arguments)
+}
+
+/// `o.m(..)`: a method of a class, of an object or of a String, or a print.
+///
+/// # Errors
+/// `Fault` of rule 11 where `o` is a call without a result, and of rule 19 where it is the number 2147483648, at its first
+/// token; of rules 10 to 14 at the method's name or at an argument. `OutOfMemory` where there is no memory left.
+#[tactic(auto, using(crate::proofs::CallLemmas::class_checks, crate::proofs::CallLemmas::print_checks))]
+pub fn method(
+    alloc: Global,
+    env: &Environment,
+    scope: &Scope,
+    o: Typed,
+    m: &Ident,
+    arguments: Items<Value>,
+) -> Result<Typed, CheckError>
+    ensures { Checks (attr_at env.now scope.now (Expr-F.Method (clean o) m.now (of_values arguments))) result }
+{
+    match qualifier_of(env, scope, &o, m, arguments.as_slice())? {
+        Qualifier::Class(class) => behind_class(alloc, env, scope, o.at, class, m, arguments),
+        Qualifier::Output => print(o.at, m, arguments),
+        Qualifier::Value => behind_part(alloc, env, scope, o, m, arguments),
+    }
+}

@@ -1,5 +1,6 @@
 use crate::literal::Literal;
 use indexmap::IndexMap;
+use std::alloc::{AllocError, Global};
 use std::marker::Model;
 
 /// The constants that were read so far, by the tokens of their names, with their values; one that breaks a rule has none.
@@ -19,8 +20,30 @@ impl Model for Constants {
 }
 
 impl Constants {
-    ghost use Rattle.std.specs.Prelude.{◌≡◌, ◌==◌, find, option_map};
+    ghost use Rattle.std.specs.Prelude.{◌≡◌, ◌==◌, [], ◌∷◌, ◌++◌, OnOk, find, option_map};
     ghost use Rattle.std.specs.Option.{option_copied};
+
+    /// No constants.
+    pub fn new(alloc: Global) -> Constants
+        ensures { result ≡ [] }
+    {
+        Constants {
+            values: IndexMap::new(alloc),
+        }
+    }
+
+    /// Adds the constant whose name is token number `at`. `AllocError` where there is no memory left, or where a constant with
+    /// that token was read already, which no file has.
+    #[tactic(auto, using(crate::proofs::ConstantLemmas::new_constant))]
+    pub fn push(&mut self, at: u32, value: Option<Literal>) -> Result<(), AllocError>
+        ensures { OnOk result (self.new ≡ self.old ++ (at, value) ∷ []) }
+    {
+        if self.values.contains_key(&at) {
+            return Err(AllocError);
+        }
+        self.values.insert(at, value)?;
+        Ok(())
+    }
 
     /// The constant whose name is this token, with its value; `None` where no such constant was read. It takes no memory.
     #[tactic(auto, using(crate::proofs::ConstantLemmas::lookups))]

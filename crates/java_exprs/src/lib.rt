@@ -7,27 +7,27 @@
 //! `creation`, `operators`, `unary`, `casts`, `simple`.
 #![tactic(auto)]
 
-mod arguments;
-mod assignability;
+pub mod arguments;
+pub mod assignability;
 mod callee;
 mod calls;
-mod casts;
+pub mod casts;
 mod constants;
 mod creation;
 mod environment;
 pub mod expression;
-mod fault;
+pub mod fault;
 mod fields;
 mod folded;
-mod forms;
+pub mod forms;
 mod invocation;
 mod library_calls;
 mod library_names;
 mod literal;
-mod literals;
+pub mod literals;
 mod members;
 mod names;
-mod operators;
+pub mod operators;
 mod qualifier;
 mod receiver;
 mod simple;

@@ -43,9 +43,9 @@ pub fn wants_boolean(e: &Value) -> Result<(), CheckError>
     }
 }
 
-// Sees that both operands are ints.
+/// Sees that both operands are ints.
 #[tactic(auto, using(crate::proofs::RulesLemmas::both_places, crate::proofs::RulesLemmas::joins))]
-fn want_ints(l: &Value, r: &Value) -> Result<(), CheckError>
+pub fn want_ints(l: &Value, r: &Value) -> Result<(), CheckError>
     ensures { Allows (of_rule 11 (rule.both_11 of.is_int (of_value l.now) (of_value r.now)) []) result }
 {
     wants_int(l)?;
@@ -61,8 +61,8 @@ fn want_booleans(l: &Value, r: &Value) -> Result<(), CheckError>
     wants_boolean(r)
 }
 
-// Sees that the operands are two ints or two booleans.
-fn want_alike(l: &Value, r: &Value) -> Result<(), CheckError>
+/// Sees that the operands are two ints or two booleans.
+pub fn want_alike(l: &Value, r: &Value) -> Result<(), CheckError>
     ensures { Allows (of_rule 11 (rule.bitwise_11 (of_value l.now) (of_value r.now)) []) result }
 {
     if is_int(&l.ty) {

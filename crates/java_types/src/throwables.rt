@@ -1,0 +1,43 @@
+//! The class that a catch clause takes (JLS 14.20).
+
+ghost use Rattle.std.specs.Prelude.{◌≡◌, [], Some, IfOk, IfErr, OnOk};
+ghost use Rattle.java_exprs.specs.Attr.{of_rule};
+ghost use Rattle.java_exprs.specs.Checks.{Refuses};
+ghost use Rattle.java_exprs.specs.Lookups.{class_named};
+ghost use Rattle.java_names.specs.Types as types;
+ghost use Rattle.java_types.specs.Statements as spec;
+
+use java_exprs::Environment;
+use java_exprs::fault::fault;
+use java_syntax::{CheckError, Ident};
+use java_tokens::Name;
+
+/// The number of Throwable.
+const THROWABLE: u32 = 1;
+
+// Whether a name is `String`.
+fn is_string(name: &Name) -> bool
+    ensures { result ≡ types.is_string name.now }
+{
+    matches!(name.characters(), ['S', 't', 'r', 'i', 'n', 'g'])
+}
+
+/// The number of the class of this name, which is Throwable or below it.
+///
+/// # Errors
+/// `Fault` of rule 10 where the name is unknown, and of rule 11 where it is String or that of another class.
+pub fn throwable(env: &Environment, class: &Ident) -> Result<u32, CheckError>
+    ensures class { IfOk result (λ number. class_named env.now class.now.name ≡ Some number) }
+    ensures known { OnOk result (spec.exception_10 env.now class.now ≡ []) }
+    ensures below { OnOk result (spec.exception_11 env.now class.now ≡ []) }
+    ensures fault { IfErr result (Refuses (of_rule 10 (spec.exception_10 env.now class.now) (of_rule 11 (spec.exception_11 env.now class.now) []))) }
+{
+    let Some(number) = env.symbols.class_number(&class.name) else {
+        let rule = if is_string(&class.name) { 11 } else { 10 };
+        return Err(fault(rule, class.at));
+    };
+    if !env.symbols.is_below(number, THROWABLE) {
+        return Err(fault(11, class.at));
+    }
+    Ok(number)
+}

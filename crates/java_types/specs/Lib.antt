@@ -4,5 +4,3 @@ pub mod Declarations
 pub mod Constants
 pub mod Bodies
 pub mod Files
-pub mod Answers
-pub mod Gathered

@@ -5,29 +5,3 @@
 //! breaks), `specs/Bodies`, `specs/Declarations`, `specs/Constants`, and `specs/Files`, whose `faults_of` and `program_of` are
 //! what the crate is about.
 #![tactic(auto)]
-
-mod assignments;
-mod blocks;
-mod classes;
-mod conditions;
-mod constants;
-mod constructors;
-mod declarations;
-mod exceptions;
-mod expression_statements;
-mod fields;
-mod folding;
-mod jumps;
-mod locals;
-mod main_method;
-mod members;
-mod methods;
-mod modifiers;
-mod numbers;
-mod parameters;
-mod scopes;
-mod slots;
-mod statements;
-mod superclass;
-mod throwables;
-mod types;

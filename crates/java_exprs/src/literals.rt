@@ -15,11 +15,11 @@ use java_tokens::Name;
 use std::alloc::Global;
 
 /// The greatest number that a minus can stand before.
-const GREATEST: u64 = 2_147_483_648;
+pub const GREATEST: u64 = 2_147_483_648;
 
-// The number as an `int`; 2147483648 is wrapped.
+/// The number as an `int`; 2147483648 is wrapped.
 #[tactic(auto, using(crate::proofs::NumberLemmas::numbers))]
-fn int_of(n: u64) -> i32
+pub fn int_of(n: u64) -> i32
     requires { n ≤ 2_147_483_648 }
     ensures { result ≡ wrap (pos n) }
 {

@@ -1,0 +1,2 @@
+pub mod FoldedLemmas
+pub mod TextLemmas

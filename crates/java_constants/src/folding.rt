@@ -57,8 +57,12 @@ fn field(env: &Environment, o: &Folded, f: &Ident) -> Result<Folded, AllocError>
     }
 }
 
-/// What an expression is as the initialiser of a constant, or as a part of one. Calls, casts and whatever else no
+/// What an expression is as the initialiser of a constant, or as a part of one (JLS 15.29): its value, or why it has none.
+/// The names in it are those of `scope`, and its constants those that `env` has so far. Calls, casts and whatever else no
 /// initialiser has are not walked.
+///
+/// # Errors
+/// `AllocError` where there is no memory left, and for a literal of 2^31 characters or more.
 #[tactic(auto, using(crate::proofs::FoldedLemmas::folds))]
 pub fn fold(alloc: Global, env: &Environment, scope: &Scope, e: &Expr) -> Result<Folded, AllocError>
     ensures { IfOk result (λ it. it ≡ constants.folded_of env.now scope.now e.now) }

@@ -18,7 +18,7 @@ fn is_made(part: &Folded) -> bool
     }
 }
 
-/// An expression in parentheses.
+/// An expression in parentheses (JLS 15.8.5).
 pub fn paren(e: Folded) -> Folded
     ensures { result ≡ operators.of_parts (e ∷ []) e }
 {
@@ -28,7 +28,7 @@ pub fn paren(e: Folded) -> Folded
     }
 }
 
-/// An operator before a part.
+/// An operator before a part (JLS 15.15).
 pub fn unary(op: UnaryOp, e: &Folded) -> Folded
     ensures { result ≡ operators.of_parts (e.now ∷ []) (operators.unary_folded op e.now) }
 {
@@ -70,7 +70,11 @@ fn strict(alloc: Global, op: BinaryOp, l: &Folded, r: &Folded) -> Result<Folded,
     }
 }
 
-/// An operator between two parts. A second operand that isn't evaluated must be a part of the allowed kinds, too.
+/// An operator between two parts (JLS 15.17 to 15.24). A second operand that isn't evaluated must be a part of the allowed
+/// kinds, too.
+///
+/// # Errors
+/// `AllocError` where there is no memory left.
 pub fn binary(alloc: Global, op: BinaryOp, l: Folded, r: Folded) -> Result<Folded, AllocError>
     ensures { IfOk result (λ f. f ≡ operators.of_parts (l ∷ r ∷ []) (operators.binary_folded op l r)) }
 {
@@ -84,7 +88,7 @@ pub fn binary(alloc: Global, op: BinaryOp, l: Folded, r: Folded) -> Result<Folde
     }
 }
 
-/// `c ? a : b`
+/// `c ? a : b` (JLS 15.25). Only one of `a` and `b` is evaluated, and both must be parts of the allowed kinds.
 pub fn conditional(c: &Folded, a: Folded, b: Folded) -> Folded
     ensures { result ≡ operators.of_parts (c.now ∷ a ∷ b ∷ []) (operators.choice_folded c.now a b) }
 {

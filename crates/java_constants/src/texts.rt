@@ -14,7 +14,10 @@ use std::alloc::{AllocError, Global};
 /// The most code units of a constant's text.
 const MOST_UNITS: u32 = 65_535;
 
-/// A text, or the failure of one that is too long for a constant.
+/// A text, or the failure of one that is too long for a constant (JLS 15.29).
+///
+/// # Errors
+/// `AllocError` where there is no memory left, and for 2^31 characters or more.
 pub fn text(alloc: Global, characters: &[char]) -> Result<Folded, AllocError>
     ensures { IfOk result (λ f. f ≡ operators.text_folded characters.now) }
 {
@@ -70,7 +73,11 @@ fn push_shown(characters: &mut Vec<char>, value: &Literal) -> Result<(), AllocEr
     }
 }
 
-/// The texts of two values, one behind the other; more code units than a constant may have fail before a text is made.
+/// The texts of two values, one behind the other (JLS 15.18.1); more code units than a constant may have fail before a text
+/// is made.
+///
+/// # Errors
+/// `AllocError` where there is no memory left.
 #[tactic(auto, using(crate::proofs::TextLemmas::units))]
 pub fn joined(alloc: Global, a: &Literal, b: &Literal) -> Result<Folded, AllocError>
     ensures { IfOk result (λ f. f ≡ operators.joined a.now b.now) }

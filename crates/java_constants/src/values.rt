@@ -148,6 +148,9 @@ fn text_value(alloc: Global, op: BinaryOp, a: &Literal, b: &Literal) -> Result<F
 }
 
 /// What an operator makes of two values (JLS 15.17 to 15.22). Only `+` with a text or null takes memory.
+///
+/// # Errors
+/// `AllocError` where there is no memory left.
 pub fn binary_value(
     alloc: Global,
     op: BinaryOp,

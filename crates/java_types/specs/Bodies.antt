@@ -1,13 +1,11 @@
 -- Initialisers of fields, bodies of methods, and constructors with what they do with the superclass (JLS 8.3.2, 8.4.7, 8.8.7).
-use Rattle.std.specs.Prelude.{ℕ, Bool, true, false, not, ◌==◌, List, [], ◌∷◌, ◌++◌, map, drop, length, Option, Some, None, option_map, is_some, if◌then◌else◌}
+use Rattle.std.specs.Prelude.{ℕ, not, ◌==◌, List, [], ◌∷◌, ◌++◌, map, drop, length, Option, option_map, is_some, if◌then◌else◌}
 use Rattle.std.specs.Option.{option_map_or}
-use Rattle.core_tree.specs.declared.ty.Ty.{Ty}
 use Rattle.core_tree.specs.declared.program.Field.{Field}
 use Rattle.core_tree.specs.declared.program.Method.{Method}
 use Rattle.core_tree.specs.declared.program.Maker.{Maker}
 use Rattle.core_tree.specs.declared.program.Parent.{Parent}
 use Rattle.core_tree.specs.declared.program.Parent.TheVariants as parent
-use Rattle.core_tree.specs.BuiltIn.{is_built_in}
 use Rattle.java_syntax.specs.declared.fault.Fault.{Fault}
 use Rattle.java_syntax.specs.declared.expression.Expr.{Expr}
 use Rattle.java_syntax.specs.declared.statement.CatchTree.{CatchTree}
@@ -28,8 +26,8 @@ use Rattle.java_exprs.specs.Lookups.{superclass_of, maker_of}
 use Rattle.java_exprs.specs.Resolved.{cores, first_core}
 use Rattle.java_exprs.specs.Rules.{wants_type, wants_each}
 use Rattle.java_exprs.specs.Checks.{attr}
-use Rattle.java_types.specs.Effects.{Effects, sequence}
-use Rattle.java_types.specs.Statements.{effect}
+use Rattle.java_statements.specs.Effects.{Effects, sequence}
+use Rattle.java_statements.specs.Statements.{effect}
 use Rattle.java_types.specs.Declarations.{method_scope, maker_scope, with_params}
 
 -- ---- instance fields

@@ -1,5 +1,5 @@
 -- The constants of a file in text order: their values, and what their initialisers break.
-use Rattle.std.specs.Prelude.{ℕ, suc, Bool, true, false, List, [], ◌∷◌, ◌++◌, Option, Some, None, option_and_then, if◌then◌else◌}
+use Rattle.std.specs.Prelude.{ℕ, suc, Bool, true, false, List, [], ◌∷◌, ◌++◌, Option, None, if◌then◌else◌}
 use Rattle.std.specs.Option.{option_map_or}
 use Rattle.java_syntax.specs.declared.fault.Fault.{Fault}
 use Rattle.java_syntax.specs.declared.expression.Expr.{Expr}

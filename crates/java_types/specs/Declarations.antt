@@ -1,5 +1,5 @@
 -- What the declarations of members break, without their initialisers and bodies.
-use Rattle.std.specs.Prelude.{ℕ, suc, Bool, true, false, not, ◌||◌, ◌&&◌, nat_lt, List, [], ◌∷◌, ◌++◌, length, filter, Option, Some, None, is_some, is_none}
+use Rattle.std.specs.Prelude.{ℕ, Bool, true, false, not, ◌||◌, ◌&&◌, nat_lt, List, [], ◌∷◌, ◌++◌, length, filter, Option}
 use Rattle.std.specs.Bool.{beq}
 use Rattle.std.specs.List.{list_any, flat_map}
 use Rattle.std.specs.Option.{option_map_or}
@@ -7,7 +7,6 @@ use Rattle.core_tree.specs.declared.ty.Ty.{Ty}
 use Rattle.core_tree.specs.declared.ty.Ty.TheVariants as ty
 use Rattle.core_tree.specs.Types.{is_int, is_boolean, is_string}
 use Rattle.java_syntax.specs.declared.fault.Fault.{Fault}
-use Rattle.java_syntax.specs.declared.name.Ident.{Ident}
 use Rattle.java_syntax.specs.declared.name.TypeTree.{TypeTree}
 use Rattle.java_syntax.specs.declared.class.Modifier.{Modifier}
 use Rattle.java_syntax.specs.declared.class.Modifier.TheVariants as word
@@ -15,18 +14,16 @@ use Rattle.java_syntax.specs.declared.class.Mods.{Mods}
 use Rattle.java_syntax.specs.declared.class.ParamTree.{ParamTree}
 use Rattle.java_syntax.specs.declared.class.FieldTree.{FieldTree}
 use Rattle.java_syntax.specs.declared.class.MethodTree.{MethodTree}
-use Rattle.java_syntax.specs.declared.class.MakerTree.{MakerTree}
 use Rattle.java_syntax.specs.declared.class.Member.{Member}
 use Rattle.java_syntax.specs.declared.class.Member.TheVariants as member
 use Rattle.class_table.specs.Members.{is_static}
 use Rattle.java_names.specs.declared.scope.Scope.{Scope}
-use Rattle.java_names.specs.Lookups.{is_below}
 use Rattle.java_names.specs.Scope.{first_scope, declared}
 use Rattle.java_names.specs.Types.{declared_type, answer_type}
 use Rattle.java_exprs.specs.declared.environment.Environment.{Environment}
 use Rattle.java_exprs.specs.Attr.{unless, only_if, of_rule}
-use Rattle.java_exprs.specs.Lookups.{class_named, type_named, unknown_type}
-use Rattle.java_types.specs.Statements.{again_10, exception_10, exception_11}
+use Rattle.java_exprs.specs.Lookups.{type_named, unknown_type}
+use Rattle.java_statements.specs.Statements.{again_10, exception_10, exception_11}
 
 -- ---- 20 (1) to (5): modifiers (JLS 8.3.1, 8.4.3, 8.8.3); at the name
 

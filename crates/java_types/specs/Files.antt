@@ -1,6 +1,5 @@
 -- Which rules a file breaks, and the resolved program of a file that breaks none.
-use Rattle.std.specs.Prelude.{ℕ, suc, Bool, true, false, not, List, [], ◌∷◌, ◌++◌, map, reverse, position, Option, Some, None, slice_get, unwrap_or, if◌then◌else◌}
-use Rattle.std.specs.Option.{option_map_or}
+use Rattle.std.specs.Prelude.{ℕ, suc, List, [], ◌∷◌, ◌++◌, reverse, position, slice_get, unwrap_or, if◌then◌else◌}
 use Rattle.std.specs.List.{flat_map}
 use Rattle.core_tree.specs.declared.program.Class.{Class}
 use Rattle.core_tree.specs.declared.program.Field.{Field}

@@ -1,6 +1,6 @@
-pub mod Effects
-pub mod Statements
 pub mod Declarations
 pub mod Constants
 pub mod Bodies
 pub mod Files
+pub mod Answers
+pub mod Gathered

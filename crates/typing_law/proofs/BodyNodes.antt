@@ -29,8 +29,8 @@ use Rattle.java_exprs.specs.declared.typed.Denotation.TheVariants as denotes
 use Rattle.java_exprs.specs.Attr.{Attr, value_type, only_if, of_rule, named_10, bare_19, is_no_value, value_faults}
 use Rattle.java_exprs.specs.Rules.{wants, wants_type, both_11, bitwise_11}
 use Rattle.java_exprs.specs.Checks.{attr}
-use Rattle.java_types.specs.Effects.{StmtNode}
-use Rattle.java_types.specs.Statements.{target_of, sum_op, assigned, counted, evaluated, optional_core, stmt_10, stmt_11, stmt_14, stmt_17, stmt_18, stmt_20, stmt_21, condition_11, assign_11, return_11, throwable, target_18, constant_20, optional_faults, stmt_broken_below, stmt_broken_here, effect_at}
+use Rattle.java_statements.specs.Effects.{StmtNode}
+use Rattle.java_statements.specs.Statements.{target_of, sum_op, assigned, counted, evaluated, optional_core, stmt_10, stmt_11, stmt_14, stmt_17, stmt_18, stmt_20, stmt_21, condition_11, assign_11, return_11, throwable, target_18, constant_20, optional_faults, stmt_broken_below, stmt_broken_here, effect_at}
 use Rattle.typing_law.specs.Means.{Means, prints}
 use Rattle.typing_law.specs.Agrees.{Agrees}
 use Rattle.typing_law.specs.Scopes.{IsKnown, FitsBody}

@@ -22,8 +22,8 @@ use Rattle.java_exprs.specs.Attr.{unless, only_if, of_rule, value_faults}
 use Rattle.java_exprs.specs.Lookups.{unknown_type}
 use Rattle.java_exprs.specs.Rules.{wants_type}
 use Rattle.java_exprs.specs.Checks.{attr}
-use Rattle.java_types.specs.Effects.{Part, CatchPart, sequence, clauses, inner, looped, branch}
-use Rattle.java_types.specs.Statements.{local_type, with_local, started, updated, optional_core, again_10, condition_11, optional_faults}
+use Rattle.java_statements.specs.Effects.{Part, CatchPart, sequence, clauses, inner, looped, branch}
+use Rattle.java_statements.specs.Statements.{local_type, with_local, started, updated, optional_core, again_10, condition_11, optional_faults}
 use Rattle.typing_law.specs.Agrees.{Agrees}
 use Rattle.typing_law.specs.Scopes.{IsKnown, FitsBody}
 use Rattle.typing_law.proofs.NoFaults.{empty_parts, empty_rule, unless_empty, only_if_empty}
@@ -38,8 +38,8 @@ use Rattle.java_syntax.specs.declared.name.Ident.{Ident}
 use Rattle.java_exprs.specs.Lookups.{class_named}
 use Rattle.java_names.specs.Types.{is_string as is_string_name}
 use Rattle.java_names.specs.Lookups.{is_below}
-use Rattle.java_types.specs.Effects.{CatchNode}
-use Rattle.java_types.specs.Statements.{exception_10, catch_10, catch_11, with_caught, catch_at}
+use Rattle.java_statements.specs.Effects.{CatchNode}
+use Rattle.java_statements.specs.Statements.{exception_10, catch_10, catch_11, with_caught, catch_at}
 use Rattle.typing_law.proofs.Values.{class_value, value_not_void}
 use Rattle.typing_law.proofs.SameTypes.{same_refl}
 use Rattle.typing_law.proofs.Statements.{CatchHolds, CatchIsRight}

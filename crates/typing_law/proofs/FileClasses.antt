@@ -26,7 +26,7 @@ use Rattle.java_names.specs.Types.{declared_type, declared_types, answer_type}
 use Rattle.java_exprs.specs.declared.environment.Environment.{Environment}
 use Rattle.java_exprs.specs.Attr.{of_rule}
 use Rattle.java_exprs.specs.Lookups.{class_named, unknown_type}
-use Rattle.java_types.specs.Statements.{again_10, exception_10}
+use Rattle.java_statements.specs.Statements.{again_10, exception_10}
 use Rattle.java_types.specs.Declarations.{with_param, params_10, answer_10, method_scope, maker_scope, declared_10, declared_11, declared_20, declaration_faults}
 use Rattle.java_types.specs.Files.{of_members}
 use Rattle.typing_law.proofs.NoFaults.{empty_parts, empty_rule}
@@ -88,7 +88,7 @@ module _ (env : Environment) (p : Program) (classes : (x : Name) (c : ℕ) → c
       and_from (is_value p (declared_type env.symbols.names q.ty)) (list_all (is_value p) (declared_types env.symbols.names (types_of qs)))
       (declared_value env p classes q.ty (empty_parts (unknown_type env q.ty) (again_10 s q.name) parts.0).0) (params_values qs (with_param env q s) parts.1)
 
-  none_10 : (c : ℕ) (m : Member) → declaration_faults env c m ≡ [] → declared_10 env c m ≡ []
+  pub none_10 : (c : ℕ) (m : Member) → declaration_faults env c m ≡ [] → declared_10 env c m ≡ []
   none_10 c m none = (empty_rule 10 (declared_10 env c m) (of_rule 11 (declared_11 env m) (of_rule 20 (declared_20 env m) [])) none).0
 
   pub maker_values : (c : ℕ) (members : List Member) (i : ℕ) (y : MakerRow) → flat_map (declaration_faults env c) members ≡ [] → slice_get (makers_in members) i ≡ Some y → IsTrue (list_all (is_value p) (declared_types env.symbols.names y.params))

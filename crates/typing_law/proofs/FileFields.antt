@@ -102,7 +102,7 @@ map_append : {X Y : Type 0} (f : X → Y) (xs ys : List X) → map f (xs ++ ys) 
 map_append f [] ys = refl
 map_append f (x ∷ xs) ys = ap (λ zs. f x ∷ zs) (map_append f xs ys)
 
-filter_append : (test : FieldRow → Bool) (xs ys : List FieldRow) → filter test (xs ++ ys) ≡ filter test xs ++ filter test ys
+pub filter_append : (test : FieldRow → Bool) (xs ys : List FieldRow) → filter test (xs ++ ys) ≡ filter test xs ++ filter test ys
 filter_append test [] ys = refl
 filter_append test (x ∷ xs) ys = cases (test x) (filter_append test xs ys)
   where

@@ -35,7 +35,7 @@ module _ (tree : FileTree) (constants : List (ℕ × Option Literal)) (none : of
   on d line = IsTrue (list_any (λ a. a == d) line)
 
   -- a class on a line: the first of it, or one on the line of the superclass
-  pub line_cases : (c : ℕ) (row : ClassRow) (d : ℕ) {Q : Type 0} → slice_get table.classes c ≡ Some row → on d row.line → (c ≡ d → Q) → ((q : ℕ) (above : ClassRow) → slice_get table.classes q ≡ Some above → row.line ≡ c ∷ above.line → on d above.line → Q) → Q
+  pub line_cases : (c : ℕ) (row : ClassRow) (d : ℕ) {Q : Type 0} → slice_get table.classes c ≡ Some row → on d row.line → (c ≡ d → Q) → ((q : ℕ) (above : ClassRow) → slice_get table.classes q ≡ Some above → row.parent ≡ Some q → row.line ≡ c ∷ above.line → on d above.line → Q) → Q
   line_cases c row d {Q = Q} is on_line here higher = either (c == d) refl (subst (on d) line on_line)
     where
       line : row.line ≡ c ∷ line_above table.classes row.parent
@@ -47,7 +47,7 @@ module _ (tree : FileTree) (constants : List (ℕ × Option Literal)) (none : of
         where
           of_row : (found : Option ClassRow) → slice_get table.classes q ≡ found → on d (option_map_or (λ row. row.line) found []) → Q
           of_row None is_q any = absurd (false≢true any)
-          of_row (Some above) is_q any = higher q above is_q (line ∙ ap (λ parent. c ∷ line_above table.classes parent) is_parent ∙ ap (λ found. c ∷ option_map_or (λ row. row.line) found []) is_q) any
+          of_row (Some above) is_q any = higher q above is_q is_parent (line ∙ ap (λ parent. c ∷ line_above table.classes parent) is_parent ∙ ap (λ found. c ∷ option_map_or (λ row. row.line) found []) is_q) any
 
       either : (b : Bool) → (c == d) ≡ b → IsTrue (b || list_any (λ a. a == d) (line_above table.classes row.parent)) → Q
       either true same any = here (eqb-true c d same)
@@ -63,7 +63,7 @@ module _ (tree : FileTree) (constants : List (ℕ × Option Literal)) (none : of
   line_within (suc n) c row d shorter is on_line =
       line_cases c row d {Q = (there : ClassRow) × (slice_get table.classes d ≡ Some there) × (length there.line ≤ length row.line)} is on_line
       (λ same. (row, ap (slice_get table.classes) (sym same) ∙ is, le_refl (length row.line)))
-      (λ q above is_q line on_above. let lengths = ap length line in let more = line_within n q above d (omega arith) is_q on_above in (more.0, more.1, omega (arith, more.2)))
+      (λ q above is_q is_parent line on_above. let lengths = ap length line in let more = line_within n q above d (omega arith) is_q on_above in (more.0, more.1, omega (arith, more.2)))
     where
       le_refl : (k : ℕ) → k ≤ k
       le_refl k = omega arith

@@ -111,10 +111,10 @@ module _ (tree : FileTree) (constants : List (ℕ × Option Literal)) (none : of
   chain (suc n) c row d e shorter is on_d on_e =
       line_cases tree constants none is_table short c row d {Q = ((r : ClassRow) × (slice_get table.classes d ≡ Some r) × stands e r.line) ⊎ ((r : ClassRow) × (slice_get table.classes e ≡ Some r) × stands d r.line)} is on_d
       (λ same. inl (row, ap (slice_get table.classes) (sym same) ∙ is, on_e))
-      (λ q above is_q line higher_d.
+      (λ q above is_q is_parent line higher_d.
       line_cases tree constants none is_table short c row e {Q = ((r : ClassRow) × (slice_get table.classes d ≡ Some r) × stands e r.line) ⊎ ((r : ClassRow) × (slice_get table.classes e ≡ Some r) × stands d r.line)} is on_e
       (λ same. inr (row, ap (slice_get table.classes) (sym same) ∙ is, on_d))
-      (λ k other is_k other_line higher_e.
+      (λ k other is_k is_other_parent other_line higher_e.
       let same_lines : other.line ≡ above.line = tail_of c c other.line above.line (sym other_line ∙ line) in
       let lengths = ap length line in
       chain n q above d e (omega arith) is_q higher_d (subst (stands e) same_lines higher_e)))

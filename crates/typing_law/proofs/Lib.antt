@@ -33,3 +33,5 @@ mod FileLines
 mod FileMessages
 mod FileLookups
 mod FileFields
+mod FieldRows
+mod FileMembers

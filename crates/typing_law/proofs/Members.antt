@@ -37,7 +37,7 @@ use Rattle.java_exprs.specs.Lookups.{maker_of, unknown_type}
 use Rattle.java_exprs.specs.Resolved.{cores, first_core}
 use Rattle.java_exprs.specs.Rules.{wants_type, wants_each}
 use Rattle.java_exprs.specs.Checks.{attr}
-use Rattle.java_types.specs.Statements.{effect, again_10}
+use Rattle.java_statements.specs.Statements.{effect, again_10}
 use Rattle.java_types.specs.Declarations.{with_param, with_params, params_10, answer_10, method_scope, maker_scope}
 use Rattle.java_types.specs.Bodies.{start_faults, field_faults, core_field, body_effects, method_effects, core_method, parent_11, parent_12, parent_13, parent_faults, parent_faults_of, built_in_parent, core_parent_of, core_parent, beginning, params_scope, given_of, maker_effects, maker_faults, core_maker, made_maker}
 use Rattle.typing_law.specs.Agrees.{Agrees, AgreesOnMaker, IsOfFile}

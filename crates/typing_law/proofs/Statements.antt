@@ -11,7 +11,7 @@ use Rattle.core_tree.specs.WellTyped.{declared_node, declared_catch, declared_nu
 use Rattle.java_names.specs.declared.scope.Scope.{Scope}
 use Rattle.java_names.specs.Scope.{back_at}
 use Rattle.java_exprs.specs.declared.environment.Environment.{Environment}
-use Rattle.java_types.specs.Effects.{Part, CatchPart, sequence, clauses, inner, looped, branch, in_loop}
+use Rattle.java_statements.specs.Effects.{Part, CatchPart, sequence, clauses, inner, looped, branch, in_loop}
 use Rattle.typing_law.specs.Scopes.{IsKnown, GoesTo, FitsBody}
 use Rattle.typing_law.proofs.NoFaults.{empty_parts}
 use Rattle.typing_law.proofs.Scopes.{goes_nowhere, goes_on, numbers_on, goes_left, left_known, fits_before, fits_after}

@@ -8,8 +8,8 @@ use Rattle.java_syntax.specs.declared.statement.Stmt.TheOpen.{Stmt-F}
 use Rattle.java_syntax.specs.declared.statement.Stmt.TheViews.{roll-Stmt}
 use Rattle.java_syntax.specs.declared.statement.Stmt.TheFolds.{ind-Stmt, map-Stmt, fold-roll-Stmt, fold-roll-CatchTree}
 use Rattle.java_exprs.specs.declared.environment.Environment.{Environment}
-use Rattle.java_types.specs.Effects.{Part, CatchPart}
-use Rattle.java_types.specs.Statements.{effect, catch_effect, effect_at, catch_at}
+use Rattle.java_statements.specs.Effects.{Part, CatchPart}
+use Rattle.java_statements.specs.Statements.{effect, catch_effect, effect_at, catch_at}
 use Rattle.typing_law.specs.Agrees.{Agrees}
 use Rattle.typing_law.proofs.Statements.{PartHolds, PartsHold, CatchHolds, CatchesHold}
 use Rattle.typing_law.proofs.BodyNodes as nodes

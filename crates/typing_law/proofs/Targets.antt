@@ -22,7 +22,7 @@ use Rattle.java_exprs.specs.declared.typed.Form.{Form}
 use Rattle.java_exprs.specs.declared.typed.Form.TheVariants as form
 use Rattle.java_exprs.specs.Attr.{Attr, value_type, unless, only_if}
 use Rattle.java_exprs.specs.Rules.{both_11, bitwise_11, sum_21}
-use Rattle.java_types.specs.Statements.{target_node, target_of, is_target, target_18, constant_20, sum_11, sum_op}
+use Rattle.java_statements.specs.Statements.{target_node, target_of, is_target, target_18, constant_20, sum_11, sum_op}
 use Rattle.typing_law.specs.Means.{IsPlace, IsRight, MeansForm, is_place, has_values}
 use Rattle.typing_law.specs.Agrees.{Agrees}
 use Rattle.typing_law.proofs.TypeFacts as facts

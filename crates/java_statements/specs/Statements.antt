@@ -1,6 +1,6 @@
 -- What a statement does to the scope, what it resolves to, and which rules it breaks (JLS 14). A statement is read by one
 -- table for each question, given what is known of its parts.
-use Rattle.std.specs.Prelude.{ℕ, Bool, true, false, not, ◌||◌, ◌&&◌, List, [], ◌∷◌, ◌++◌, map, length, Option, Some, None, option_map, is_some, is_none, unwrap_or, if◌then◌else◌}
+use Rattle.std.specs.Prelude.{ℕ, Bool, true, false, ◌||◌, ◌&&◌, List, [], ◌∷◌, ◌++◌, map, length, Option, Some, None, option_map, is_some, is_none, unwrap_or, if◌then◌else◌}
 use Rattle.std.specs.Option.{option_map_or}
 use Rattle.core_tree.specs.declared.ty.Ty.{Ty}
 use Rattle.core_tree.specs.declared.ty.Ty.TheVariants as ty
@@ -13,11 +13,9 @@ use Rattle.core_tree.specs.declared.stmt.Target.TheVariants as target
 use Rattle.core_tree.specs.declared.stmt.Stmt.{Stmt as Step}
 use Rattle.core_tree.specs.declared.stmt.Stmt.TheVariants as step
 use Rattle.core_tree.specs.declared.stmt.Stmt.TheViews as view
-use Rattle.core_tree.specs.declared.stmt.Catch.{Catch as Handler}
 use Rattle.core_tree.specs.Types.{is_int, is_boolean, is_string, is_void, is_object}
 use Rattle.java_syntax.specs.declared.fault.Fault.{Fault}
 use Rattle.java_syntax.specs.declared.name.Ident.{Ident}
-use Rattle.java_syntax.specs.declared.name.TypeTree.{TypeTree}
 use Rattle.java_syntax.specs.declared.operator.AssignOp.{AssignOp}
 use Rattle.java_syntax.specs.declared.operator.AssignOp.TheVariants as assign
 use Rattle.java_syntax.specs.declared.operator.StepOp.{StepOp}
@@ -41,7 +39,7 @@ use Rattle.java_exprs.specs.Attr.{Attr, value_type, unless, only_if, of_rule, va
 use Rattle.java_exprs.specs.Lookups.{class_named, local_named, unknown_type}
 use Rattle.java_exprs.specs.Rules.{wants, wants_type, both_11, bitwise_11, of_types, sum_21}
 use Rattle.java_exprs.specs.Checks.{attr}
-use Rattle.java_types.specs.Effects.{Effect, CatchEffect, Part, CatchPart, StmtNode, CatchNode, sequence, clauses, inner, looped, branch}
+use Rattle.java_statements.specs.Effects.{Part, CatchPart, StmtNode, CatchNode, sequence, clauses, inner, looped, branch}
 
 -- ---- scopes
 
@@ -86,27 +84,38 @@ target_node _ = target.Local 0
 abbrev pub target_of : Attr → Target
 target_of a = target_node (out-Expr a.core)
 
--- the operator of a compound assignment to a variable of this type
+-- the operator of `+=` to a variable of this type
 abbrev pub sum_op : Option Ty → UpOp
 sum_op t = if option_map_or is_string t false then up.Concat else up.Add
 
+-- the operator of a compound assignment to a variable of this type; none of `=`
+abbrev pub update_op : AssignOp → Option Ty → Option UpOp
+update_op assign.Assign t = None
+update_op assign.Add t = Some (sum_op t)
+update_op assign.Subtract t = Some up.Sub
+update_op assign.Multiply t = Some up.Mul
+update_op assign.Divide t = Some up.Div
+update_op assign.Remainder t = Some up.Rem
+update_op assign.BitAnd t = Some up.BitAnd
+update_op assign.BitOr t = Some up.BitOr
+update_op assign.BitXor t = Some up.BitXor
+update_op assign.ShiftLeft t = Some up.Shl
+update_op assign.ShiftRight t = Some up.Shr
+update_op assign.UnsignedShiftRight t = Some up.Ushr
+
+abbrev pub assigned_by : Option UpOp → Target → Core → Step
+assigned_by None a e = step.Assign a e
+assigned_by (Some op) a e = step.Update a op (Some e)
+
 abbrev pub assigned : AssignOp → Attr → Attr → Step
-assigned assign.Assign a e = step.Assign (target_of a) e.core
-assigned assign.Add a e = step.Update (target_of a) (sum_op (value_type a.denotes)) (Some e.core)
-assigned assign.Subtract a e = step.Update (target_of a) up.Sub (Some e.core)
-assigned assign.Multiply a e = step.Update (target_of a) up.Mul (Some e.core)
-assigned assign.Divide a e = step.Update (target_of a) up.Div (Some e.core)
-assigned assign.Remainder a e = step.Update (target_of a) up.Rem (Some e.core)
-assigned assign.BitAnd a e = step.Update (target_of a) up.BitAnd (Some e.core)
-assigned assign.BitOr a e = step.Update (target_of a) up.BitOr (Some e.core)
-assigned assign.BitXor a e = step.Update (target_of a) up.BitXor (Some e.core)
-assigned assign.ShiftLeft a e = step.Update (target_of a) up.Shl (Some e.core)
-assigned assign.ShiftRight a e = step.Update (target_of a) up.Shr (Some e.core)
-assigned assign.UnsignedShiftRight a e = step.Update (target_of a) up.Ushr (Some e.core)
+assigned op a e = assigned_by (update_op op (value_type a.denotes)) (target_of a) e.core
+
+abbrev pub counted_by : StepOp → Target → Step
+counted_by count.Increment a = step.Update a up.Add None
+counted_by count.Decrement a = step.Update a up.Sub None
 
 abbrev pub counted : StepOp → Attr → Step
-counted count.Increment a = step.Update (target_of a) up.Add None
-counted count.Decrement a = step.Update (target_of a) up.Sub None
+counted op a = counted_by op (target_of a)
 
 -- a print, or an expression whose result is dropped
 abbrev pub evaluated : Core → Option Denotation → Step
@@ -247,8 +256,12 @@ stmt_20 env _ s = []
 
 -- ---- 21: `+=` with a String and an instance or array
 
+abbrev pub assign_21 : AssignOp → Attr → Attr → List ℕ
+assign_21 assign.Add a e = sum_21 a e
+assign_21 _ a e = []
+
 abbrev pub stmt_21 : Environment → StmtNode → Scope → List ℕ
-stmt_21 env (Stmt-F.Assign a assign.Add e) s = sum_21 (attr env s a) (attr env s e)
+stmt_21 env (Stmt-F.Assign a op e) s = assign_21 op (attr env s a) (attr env s e)
 stmt_21 env _ s = []
 
 -- ---- all that is broken

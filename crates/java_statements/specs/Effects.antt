@@ -1,5 +1,5 @@
 -- What is known of a statement in a scope, and how statements follow one another.
-use Rattle.std.specs.Prelude.{ℕ, Bool, true, List, [], ◌∷◌, ◌++◌, Option, Some, None}
+use Rattle.std.specs.Prelude.{true, List, [], ◌∷◌, ◌++◌, Option, Some, None}
 use Rattle.core_tree.specs.declared.stmt.Stmt.{Stmt as Step}
 use Rattle.core_tree.specs.declared.stmt.Catch.{Catch as Handler}
 use Rattle.java_syntax.specs.declared.fault.Fault.{Fault}

@@ -1,0 +1,4 @@
+pub mod Rows
+pub mod ListLemmas
+pub mod EffectLemmas
+pub mod FaultLemmas

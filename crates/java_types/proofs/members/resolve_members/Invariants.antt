@@ -1,0 +1,11 @@
+use Rattle.std.proofs.Common.{◌≡◌, ◌+◌, [], drop}
+use Rattle.java_types.specs.Gathered.{with_classes}
+use Rattle.java_types.specs.Files.{first_class, member_faults, of_members}
+use Rattle.java_types.proofs.members.resolve_members.Given as goal
+
+abbrev pub invariant-loop-tree : goal.invariant-loop-tree
+invariant-loop-tree l = record {
+  place : l.class ≡ first_class + l.tree-index;
+  bodies : with_classes l.env first_class l.classes (record { methods = []; makers = [] }) ≡ with_classes l.env l.class (drop l.tree-index l.classes) l.bodies;
+  clear : of_members (member_faults l.env) first_class l.classes ≡ of_members (member_faults l.env) l.class (drop l.tree-index l.classes);
+}

@@ -16,7 +16,10 @@ use java_syntax::{CheckError, Expr, Stmt};
 use sqlite_items::Boxed;
 use std::alloc::Global;
 
-/// `{ .. }`: its locals end with it.
+/// `{ .. }`, resolved. Its locals end with it (JLS 6.3, 14.2).
+///
+/// # Errors
+/// `Fault` of a rule that is broken in it. `OutOfMemory` where there is no memory left. The scope then serves no more.
 #[cycle(statements)]
 #[tactic(auto, using(java_exprs::proofs::RulesLemmas::joins))]
 pub fn block(
@@ -33,7 +36,10 @@ pub fn block(
     Ok(Step::Block(steps))
 }
 
-/// A statement by itself: the locals that it declares end with it.
+/// A statement by itself, resolved: the locals that it declares end with it (JLS 6.3).
+///
+/// # Errors
+/// `Fault` of a rule that is broken in it. `OutOfMemory` where there is no memory left. The scope then serves no more.
 #[cycle(statements)]
 #[tactic(auto, unfolding(crate::specs::Effects::inner))]
 pub fn inside(
@@ -50,7 +56,10 @@ pub fn inside(
     Ok(Boxed::new(alloc, step)?)
 }
 
-/// A statement by itself, that may be left out.
+/// A statement by itself that may be left out, resolved.
+///
+/// # Errors
+/// As `inside`, where there is one.
 #[cycle(statements)]
 #[tactic(auto, unfolding(crate::specs::Effects::branch))]
 pub fn optional(
@@ -68,7 +77,11 @@ pub fn optional(
     }
 }
 
-/// `if (c) s else t` or `if (c) s`. It is handed the whole statement beside its parts, so that they are seen to be smaller.
+/// `if (c) s else t` or `if (c) s`, resolved (JLS 14.9). It is handed the whole statement beside its parts, so that they are
+/// seen to be smaller.
+///
+/// # Errors
+/// `Fault` of a rule that is broken in it. `OutOfMemory` where there is no memory left. The scope then serves no more.
 #[cycle(statements)]
 #[tactic(auto, using(java_exprs::proofs::RulesLemmas::joins, crate::proofs::FaultLemmas::around))]
 pub fn choice(

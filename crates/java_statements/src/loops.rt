@@ -33,7 +33,11 @@ fn repeated(
     Ok(Boxed::new(alloc, step)?)
 }
 
-/// `while (c) s`
+/// `while (c) s`, resolved (JLS 14.12). It is handed the whole statement beside its parts, so that they are seen to be
+/// smaller; so are the others here.
+///
+/// # Errors
+/// `Fault` of a rule that is broken in it. `OutOfMemory` where there is no memory left. The scope then serves no more.
 #[cycle(statements)]
 #[tactic(auto, using(java_exprs::proofs::RulesLemmas::joins, crate::proofs::FaultLemmas::around))]
 pub fn while_loop(
@@ -52,7 +56,10 @@ pub fn while_loop(
     Ok(Step::While(test, turn))
 }
 
-/// `do s while (c);` The condition is read first: no local of the body is in scope in it.
+/// `do s while (c);`, resolved (JLS 14.13). The condition is read first: no local of the body is in scope in it.
+///
+/// # Errors
+/// `Fault` of a rule that is broken in it. `OutOfMemory` where there is no memory left. The scope then serves no more.
 #[cycle(statements)]
 #[tactic(auto, using(java_exprs::proofs::RulesLemmas::joins, crate::proofs::FaultLemmas::around))]
 pub fn do_loop(
@@ -71,7 +78,10 @@ pub fn do_loop(
     Ok(Step::DoWhile(turn, test))
 }
 
-/// `for (start; c; update) s`: what the start declares is in scope up to the end of the loop.
+/// `for (start; c; update) s`, resolved (JLS 14.14.1). What the start declares is in scope up to the end of the loop.
+///
+/// # Errors
+/// `Fault` of a rule that is broken in it. `OutOfMemory` where there is no memory left. The scope then serves no more.
 #[cycle(statements)]
 #[tactic(auto, using(java_exprs::proofs::RulesLemmas::joins, crate::proofs::FaultLemmas::around))]
 pub fn for_loop(

@@ -90,7 +90,11 @@ fn clauses(
     Ok(handlers)
 }
 
-/// `try { .. } catch (C x) { .. } finally { .. }`
+/// `try { .. } catch (C x) { .. } finally { .. }`, resolved (JLS 14.20). It is handed the whole statement beside its parts,
+/// so that they are seen to be smaller.
+///
+/// # Errors
+/// `Fault` of a rule that is broken in it. `OutOfMemory` where there is no memory left. The scope then serves no more.
 #[cycle(statements)]
 #[tactic(auto, using(java_exprs::proofs::RulesLemmas::joins))]
 pub fn try_block(

@@ -43,7 +43,7 @@ declaration_at known n [] j = refl
 declaration_at known n (k ∷ ks) zero = let e : n ≡ n + 0 = omega arith in ap (λ m. Some (declaration known m k)) e
 declaration_at known n (k ∷ ks) (suc j) = declaration_at known (n + 1) ks j ∙ ap (λ m. option_map (declaration known m) (slice_get ks j)) (numbers_one n j)
 
-behind : (ks : List ClassTree) (j : ℕ) → slice_get (declared_of ks) (suc (suc (suc (suc (suc (suc (suc (suc (suc (suc (suc (suc (suc (suc (suc (suc (suc (suc j)))))))))))))))))) ≡ option_map (declaration (class_names ks) (18 + j)) (slice_get ks j)
+pub behind : (ks : List ClassTree) (j : ℕ) → slice_get (declared_of ks) (suc (suc (suc (suc (suc (suc (suc (suc (suc (suc (suc (suc (suc (suc (suc (suc (suc (suc j)))))))))))))))))) ≡ option_map (declaration (class_names ks) (18 + j)) (slice_get ks j)
 unfolding declared_of built_in
 behind ks j = declaration_at (class_names ks) 18 ks j
 

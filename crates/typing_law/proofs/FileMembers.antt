@@ -84,9 +84,14 @@ module _ (tree : FileTree) (constants : List (ℕ × Option Literal)) (none : of
     pub value : HasValue f
     pub constant : is_static f.mods ≡ true → IsConstant tree.classes f.at f.ty
 
+  -- the type of this spelling is that of a declaration by this token
+  abbrev pub Stands : ℕ → TypeTree → Type 0
+  Stands at spelled = (c : ℕ) × (i : ℕ) × (f : FieldRow) × (slice_get (fields_at (declared_of tree.classes) c) i ≡ Some f) × (f.at ≡ at) × (f.ty ≡ spelled)
+
   -- the same with its place
   pub record IsPlaced (f : FieldRow) : Type 0 where
     pub value : HasValue f
+    pub stands : Stands f.at f.ty
     pub instance : is_instance f ≡ is_some f.place
     pub constant : f.place ≡ None → IsConstant tree.classes f.at f.ty
 
@@ -150,10 +155,10 @@ module _ (tree : FileTree) (constants : List (ℕ × Option Literal)) (none : of
       subst (λ found. Each IsDeclared (option_map_or (λ d. d.fields) found [])) (sym (declaration_at (class_names tree.classes) 18 tree.classes j)) (of_tree j (slice_get tree.classes j) refl)
 
   placed_known : (d : ℕ) → Each IsPlaced (placed_at (declared_of tree.classes) d)
-  placed_known d = each_numbered IsPlaced IsDeclared
-      (λ f known n instance. record { value = known.value; instance = instance; constant = λ is_none. absurd (none-some n (sym is_none)) })
-      (λ f known other. record { value = known.value; instance = other; constant = λ is_none. known.constant (not_instance (is_static f.mods) other) })
-      (instance_total (declared_of tree.classes) (superclasses (declared_of tree.classes) d)) (fields_at (declared_of tree.classes) d) (own_known d)
+  placed_known d = each_numbered IsPlaced (λ f. IsDeclared f × Stands f.at f.ty)
+      (λ f known n instance. record { value = known.0.value; stands = known.1; instance = instance; constant = λ is_none. absurd (none-some n (sym is_none)) })
+      (λ f known other. record { value = known.0.value; stands = known.1; instance = other; constant = λ is_none. known.0.constant (not_instance (is_static f.mods) other) })
+      (instance_total (declared_of tree.classes) (superclasses (declared_of tree.classes) d)) (fields_at (declared_of tree.classes) d) (λ i f is. (own_known d i f is, (d, i, f, is, refl, refl)))
 
   -- ---- the fields of a row
 

@@ -134,7 +134,7 @@ module _ (tree : FileTree) (constants : List (ℕ × Option Literal)) (none : of
       cases false other any = zero_case (0 == d) refl any
 
   -- a class of the file that is above a class below Throwable, and on its line, is below Throwable
-  below_throwable : (c : ℕ) (row : ClassRow) (d : ℕ) → 18 ≤ d → slice_get table.classes c ≡ Some row → stands d row.line → stands 1 row.line → (r : ClassRow) × (slice_get table.classes d ≡ Some r) × stands 1 r.line
+  pub below_throwable : (c : ℕ) (row : ClassRow) (d : ℕ) → 18 ≤ d → slice_get table.classes c ≡ Some row → stands d row.line → stands 1 row.line → (r : ClassRow) × (slice_get table.classes d ≡ Some r) × stands 1 r.line
   below_throwable c row d least is on_d on_1 = ⊎_elim (λ found. found)
       (λ found. absurd (too_small d least (subst (stands d) (ap (λ r. r.line) (same_Some _ _ (sym found.1 ∙ throwable_row tree)) ∙ throwable_line tree) found.2)))
       (chain (length row.line) c row d 1 (le_refl (length row.line)) is on_d on_1)
@@ -143,7 +143,7 @@ module _ (tree : FileTree) (constants : List (ℕ × Option Literal)) (none : of
       le_refl k = omega arith
 
   -- rule 6 of a method called `getMessage` without parameters
-  overrides : (d : ℕ) (row : ClassRow) (i : ℕ) (y : MethodRow) → 18 ≤ d → slice_get table.classes d ≡ Some row → stands 1 row.line → slice_get row.methods i ≡ Some y → same_selector (selector_of y) message_selector ≡ true → answer_type (all_names tree constants none) y.answer ≡ ty.Text
+  pub overrides : (d : ℕ) (row : ClassRow) (i : ℕ) (y : MethodRow) → 18 ≤ d → slice_get table.classes d ≡ Some row → stands 1 row.line → slice_get row.methods i ≡ Some y → same_selector (selector_of y) message_selector ≡ true → answer_type (all_names tree constants none) y.answer ≡ ty.Text
   overrides d row i y least is_row on_1 is_y same =
       string_answer (all_names tree constants none) y.answer (cases (is_wrong_over (class_names tree.classes) (declared_of tree.classes) y 1) refl)
     where

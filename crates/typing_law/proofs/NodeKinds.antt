@@ -59,7 +59,7 @@ use Rattle.typing_law.proofs.Casts.{castable}
 
 -- ---- numbers
 
-wrapped : (z : ℤ) → IsTrue (is_int_number (wrap z))
+pub wrapped : (z : ℤ) → IsTrue (is_int_number (wrap z))
 wrapped z = ap (λ y. int_eq y (wrap z)) (int_wrap_fits w32 (wrap z) (SFits-int_wrap w32 z)) ∙ int_eq_equiv.refl (wrap z)
 
 some_of : {X : Type 0} (found : Option X) → is_some found ≡ true → (x : X) × (found ≡ Some x)

@@ -23,6 +23,7 @@ pub record BreaksNone (env : Environment) (s : Scope) (n : Node) : Type 0 where
   pub rule_14 : rule_14 env s n ≡ []
   pub rule_15 : rule_15 env n ≡ []
   pub rule_16 : rule_16 n ≡ []
+  pub rule_19 : rule_19 n ≡ []
   pub rule_21 : rule_21 n ≡ []
 
 pub breaks_none : (env : Environment) (s : Scope) (n : Node) → (attr_at env s n).faults ≡ [] → BreaksNone env s n
@@ -44,7 +45,7 @@ breaks_none env s n none =
     let e15 = empty_rule 15 (rule_15 env n) r16 e14.1 in
     let e16 = empty_rule 16 (rule_16 n) r19 e15.1 in
     let e19 = empty_rule 19 (rule_19 n) r21 e16.1 in
-    record { below = all.0; rule_10 = e10.0; rule_11 = e11.0; rule_12 = e12.0; rule_14 = e14.0; rule_15 = e15.0; rule_16 = e16.0; rule_21 = (empty_rule 21 (rule_21 n) [] e19.1).0 }
+    record { below = all.0; rule_10 = e10.0; rule_11 = e11.0; rule_12 = e12.0; rule_14 = e14.0; rule_15 = e15.0; rule_16 = e16.0; rule_19 = e19.0; rule_21 = (empty_rule 21 (rule_21 n) [] e19.1).0 }
 
 -- an expression of exactly this type
 pub has_type : (p : Program) (s : CoreScope) (core : Core) (t : Ty) → type_of p s core ≡ Some t → IsTrue (has_values p t) → HasType p s core t

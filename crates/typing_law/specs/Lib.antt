@@ -2,3 +2,4 @@ pub mod Means
 pub mod Agrees
 pub mod Scopes
 pub mod Starts
+pub mod Tokens

@@ -1,13 +1,15 @@
-//! Members that break no rule are well typed: the rules of `java_types` and the typing of `core_tree` agree.
+//! The program of a file that breaks no rule is well typed: the rules of `class_table` and `java_types`, which speak of names
+//! and trees, and the typing of `core_tree`, which speaks of numbers and types, agree.
 //!
-//! `specs/Agrees` says what must be so between the symbols of a file and its program, `specs/Means` what the resolved form of
-//! an expression must be, `specs/Scopes` what is known of a scope. The one contract is that of `members_are_typed`; there is
-//! no other code here.
+//! The one contract is that of `programs_are_typed`; there is no other code here. The words of its proof are in `specs`: what
+//! must be so between the symbols of a file and its program (`Agrees`), what the resolved form of an expression must be
+//! (`Means`), what is known of a scope (`Scopes`), and that each name is a token of its own (`Tokens`).
 //!
-//! Read `specs/Means`, `specs/Agrees`, `specs/Scopes`, then `law`. Of the proofs read `NodeKinds`, `Dots` and `Operators` (each
-//! kind of expression), `Exprs`, `BodyNodes` and `BodyParts` (each kind of statement), `Stmts`, `Members`.
+//! Of the proofs read `WholeProgram`, which puts the parts together, and the list of these parts in `WholeLists`; then
+//! `NodeKinds`, `Dots` and `Operators` (each kind of expression), `Exprs`, `BodyNodes` and `BodyParts` (each kind of statement),
+//! `Stmts`, `Members`, and `FileAgrees` (the symbols of a file agree with its program).
 #![tactic(auto)]
 
 mod law;
 
-pub use law::members_are_typed;
+pub use law::programs_are_typed;

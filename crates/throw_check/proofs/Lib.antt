@@ -1,0 +1,12 @@
+pub mod PointLemmas
+pub mod StatementLemmas
+pub mod Rows
+pub mod LeftLemmas
+pub mod ExpressionLemmas
+pub mod CallLemmas
+pub mod TypeLemmas
+pub mod NodeLemmas
+pub mod ScopeLemmas
+pub mod BeginningLemmas
+pub mod FieldLemmas
+pub mod FileLemmas

@@ -1,0 +1,5 @@
+pub mod Classes
+pub mod Points
+pub mod Statements
+pub mod Files
+pub mod Walks

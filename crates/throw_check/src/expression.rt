@@ -1,0 +1,257 @@
+//! An expression: what it denotes, and whether the exceptions are handled that it may throw (JLS 11.2.1).
+
+ghost use Rattle.std.specs.Prelude.{◌≡◌, [], ◌++◌, IfOk, flat_map, map};
+ghost use Rattle.std.specs.Option.{option_map_or};
+ghost use Rattle.java_syntax.specs.declared.expression.Expr.TheOpen.{Expr-F};
+ghost use Rattle.java_exprs.specs.Checks.{attr, attr_at};
+ghost use Rattle.throw_check.specs.Points.{expr_points, points_here, types_env};
+ghost use Rattle.throw_check.specs.Statements.{optional_points};
+ghost use Rattle.throw_check.specs.Walks.{Handles, IsKnown, faults_left};
+
+use crate::handlers::Handlers;
+use crate::known::Known;
+use crate::{calls, names, types};
+use core_tree::Ty;
+use java_exprs::Denotation;
+use java_names::{Scope, Symbols};
+use java_syntax::{BinaryOp, CheckError, Expr, Ident, UnaryOp};
+use std::alloc::Global;
+
+/// What is known of an expression, where all checked exceptions are handled that it may throw.
+///
+/// # Errors
+/// `Fault` of rule 23 at the first token of a call or a `new` in it that may throw an exception that breaks the rule.
+/// `OutOfMemory` where there is no memory left.
+#[cycle(expressions)]
+#[tactic(auto, using(java_exprs::proofs::AttrLemmas::attrs, crate::proofs::PointLemmas::points, crate::proofs::LeftLemmas::joins))]
+pub fn expr(
+    alloc: Global,
+    symbols: &Symbols,
+    scope: &Scope,
+    handlers: &Handlers,
+    e: &Expr,
+) -> Result<Known, CheckError>
+    ensures known { IfOk result (λ k. IsKnown (attr (types_env symbols.now) scope.now e.now) k) }
+    ensures handled { Handles (faults_left symbols.now handlers.now (expr_points (types_env symbols.now) scope.now e.now)) result }
+{
+    match e {
+        Expr::Number(at, _) => Ok(Known::value(*at, Ty::Int)),
+        Expr::Text(at, _) => Ok(Known::value(*at, Ty::Text)),
+        Expr::Bool(at, _) => Ok(Known::value(*at, Ty::Bool)),
+        Expr::Null(at) => Ok(Known::value(*at, Ty::Null)),
+        Expr::This(at) => Ok(Known::value(*at, Ty::Class(scope.class))),
+        Expr::Name(x) => {
+            let denotes = names::name(alloc, symbols, scope, x)?;
+            Ok(Known { at: x.at, denotes })
+        }
+        Expr::Call(m, xs) => {
+            each(alloc, symbols, scope, handlers, xs.as_slice())?;
+            calls::call(alloc, symbols, scope, handlers, m, xs.as_slice())
+        }
+        Expr::Paren(at, e) => {
+            let e = expr(alloc, symbols, scope, handlers, e.get())?;
+            Ok(Known {
+                at: *at,
+                denotes: e.into_value(),
+            })
+        }
+        Expr::Super(at, m, xs) => {
+            each(alloc, symbols, scope, handlers, xs.as_slice())?;
+            calls::super_call(alloc, symbols, scope, handlers, *at, m, xs.as_slice())
+        }
+        Expr::New(at, class, xs) => {
+            each(alloc, symbols, scope, handlers, xs.as_slice())?;
+            calls::new_object(symbols, scope, handlers, *at, class, xs.as_slice())
+        }
+        Expr::NewArray(at, base, e, dimensions) => {
+            expr(alloc, symbols, scope, handlers, e.get())?;
+            let denotes = types::array(alloc, symbols, base, *dimensions)?;
+            Ok(Known { at: *at, denotes })
+        }
+        Expr::Field(o, f) => {
+            let o = expr(alloc, symbols, scope, handlers, o.get())?;
+            let denotes = names::field(alloc, symbols, &o, f)?;
+            Ok(Known { at: o.at, denotes })
+        }
+        Expr::Method(o, m, xs) => {
+            method(
+                alloc,
+                symbols,
+                scope,
+                handlers,
+                e,
+                o.get(),
+                m,
+                xs.as_slice(),
+            )
+        }
+        Expr::Element(a, i) => element(alloc, symbols, scope, handlers, e, a.get(), i.get()),
+        Expr::Unary(at, op, e) => {
+            expr(alloc, symbols, scope, handlers, e.get())?;
+            Ok(Known::value(*at, types::unary(*op)))
+        }
+        Expr::Cast(at, ty, e) => {
+            expr(alloc, symbols, scope, handlers, e.get())?;
+            let denotes = types::spelled(alloc, symbols, ty)?;
+            Ok(Known { at: *at, denotes })
+        }
+        Expr::Binary(op, l, r) => {
+            binary(alloc, symbols, scope, handlers, e, *op, l.get(), r.get())
+        }
+        Expr::InstanceOf(e, _) => {
+            let e = expr(alloc, symbols, scope, handlers, e.get())?;
+            Ok(Known::value(e.at, Ty::Bool))
+        }
+        Expr::Conditional(c, a, b) => {
+            conditional(
+                alloc,
+                symbols,
+                scope,
+                handlers,
+                e,
+                c.get(),
+                a.get(),
+                b.get(),
+            )
+        }
+    }
+}
+
+// `o.m(a, b)`
+#[cycle(expressions)]
+#[tactic(auto, using(crate::proofs::NodeLemmas::behind_known, crate::proofs::LeftLemmas::joins))]
+fn method(
+    alloc: Global,
+    symbols: &Symbols,
+    scope: &Scope,
+    handlers: &Handlers,
+    whole: &Expr,
+    o: &Expr,
+    m: &Ident,
+    xs: &[Expr],
+) -> Result<Known, CheckError>
+    requires { whole.now ≡ Expr.Method o.now m.now xs.now }
+    ensures known { IfOk result (λ k. IsKnown (attr_at (types_env symbols.now) scope.now (Expr-F.Method (attr (types_env symbols.now) scope.now o.now) m.now (map (attr (types_env symbols.now) scope.now) xs.now))) k) }
+    ensures handled { Handles (faults_left symbols.now handlers.now ((expr_points (types_env symbols.now) scope.now o.now ++ flat_map (expr_points (types_env symbols.now) scope.now) xs.now) ++ points_here (types_env symbols.now) scope.now (Expr-F.Method (attr (types_env symbols.now) scope.now o.now) m.now (map (attr (types_env symbols.now) scope.now) xs.now)))) result }
+{
+    let o = expr(alloc, symbols, scope, handlers, o)?;
+    each(alloc, symbols, scope, handlers, xs)?;
+    calls::method(alloc, symbols, scope, handlers, &o, m, xs)
+}
+
+// `a[i]`
+#[cycle(expressions)]
+#[tactic(auto, using(crate::proofs::LeftLemmas::joins))]
+fn element(
+    alloc: Global,
+    symbols: &Symbols,
+    scope: &Scope,
+    handlers: &Handlers,
+    whole: &Expr,
+    a: &Expr,
+    i: &Expr,
+) -> Result<Known, CheckError>
+    requires { whole.now ≡ Expr.Element a.now i.now }
+    ensures known { IfOk result (λ k. IsKnown (attr_at (types_env symbols.now) scope.now (Expr-F.Element (attr (types_env symbols.now) scope.now a.now) (attr (types_env symbols.now) scope.now i.now))) k) }
+    ensures handled { Handles (faults_left symbols.now handlers.now (expr_points (types_env symbols.now) scope.now a.now ++ expr_points (types_env symbols.now) scope.now i.now)) result }
+{
+    let a = expr(alloc, symbols, scope, handlers, a)?;
+    expr(alloc, symbols, scope, handlers, i)?;
+    let denotes = types::element(alloc, &a)?;
+    Ok(Known { at: a.at, denotes })
+}
+
+// An operator between two expressions.
+#[cycle(expressions)]
+#[tactic(auto, using(crate::proofs::LeftLemmas::joins))]
+fn binary(
+    alloc: Global,
+    symbols: &Symbols,
+    scope: &Scope,
+    handlers: &Handlers,
+    whole: &Expr,
+    op: BinaryOp,
+    l: &Expr,
+    r: &Expr,
+) -> Result<Known, CheckError>
+    requires { whole.now ≡ Expr.Binary op l.now r.now }
+    ensures known { IfOk result (λ k. IsKnown (attr_at (types_env symbols.now) scope.now (Expr-F.Binary op (attr (types_env symbols.now) scope.now l.now) (attr (types_env symbols.now) scope.now r.now))) k) }
+    ensures handled { Handles (faults_left symbols.now handlers.now (expr_points (types_env symbols.now) scope.now l.now ++ expr_points (types_env symbols.now) scope.now r.now)) result }
+{
+    let l = expr(alloc, symbols, scope, handlers, l)?;
+    let r = expr(alloc, symbols, scope, handlers, r)?;
+    Ok(Known {
+        at: l.at,
+        denotes: types::binary(op, &l, &r),
+    })
+}
+
+// `c ? a : b`
+#[cycle(expressions)]
+#[tactic(auto, using(crate::proofs::LeftLemmas::joins))]
+fn conditional(
+    alloc: Global,
+    symbols: &Symbols,
+    scope: &Scope,
+    handlers: &Handlers,
+    whole: &Expr,
+    c: &Expr,
+    a: &Expr,
+    b: &Expr,
+) -> Result<Known, CheckError>
+    requires { whole.now ≡ Expr.Conditional c.now a.now b.now }
+    ensures known { IfOk result (λ k. IsKnown (attr_at (types_env symbols.now) scope.now (Expr-F.Conditional (attr (types_env symbols.now) scope.now c.now) (attr (types_env symbols.now) scope.now a.now) (attr (types_env symbols.now) scope.now b.now))) k) }
+    ensures handled { Handles (faults_left symbols.now handlers.now (expr_points (types_env symbols.now) scope.now c.now ++ (expr_points (types_env symbols.now) scope.now a.now ++ expr_points (types_env symbols.now) scope.now b.now))) result }
+{
+    let c = expr(alloc, symbols, scope, handlers, c)?;
+    let a = expr(alloc, symbols, scope, handlers, a)?;
+    let b = expr(alloc, symbols, scope, handlers, b)?;
+    Ok(Known {
+        at: c.at,
+        denotes: types::conditional(symbols, a, b),
+    })
+}
+
+/// Sees that all checked exceptions are handled that these expressions may throw, as the arguments of a call.
+///
+/// # Errors
+/// As `expr`, for one of them.
+#[cycle(expressions)]
+#[tactic(auto, using(crate::proofs::LeftLemmas::joins))]
+pub fn each(
+    alloc: Global,
+    symbols: &Symbols,
+    scope: &Scope,
+    handlers: &Handlers,
+    list: &[Expr],
+) -> Result<(), CheckError>
+    ensures { Handles (faults_left symbols.now handlers.now (flat_map (expr_points (types_env symbols.now) scope.now) list.now)) result }
+{
+    for e in list {
+        expr(alloc, symbols, scope, handlers, e)?;
+    }
+    Ok(())
+}
+
+/// Sees that all checked exceptions are handled that an expression may throw, which may be left out.
+///
+/// # Errors
+/// As `expr`, where there is one.
+#[tactic(auto, using(crate::proofs::LeftLemmas::joins))]
+pub fn optional(
+    alloc: Global,
+    symbols: &Symbols,
+    scope: &Scope,
+    handlers: &Handlers,
+    e: &Option<Expr>,
+) -> Result<(), CheckError>
+    ensures { Handles (faults_left symbols.now handlers.now (optional_points (types_env symbols.now) scope.now e.now)) result }
+{
+    match e {
+        Some(e) => {
+            expr(alloc, symbols, scope, handlers, e)?;
+            Ok(())
+        }
+        None => Ok(()),
+    }
+}

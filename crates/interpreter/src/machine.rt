@@ -18,6 +18,7 @@ pub struct Machine<S> {
     alloc: Global,
     store: Option<S>,
     steps_taken: u64,
+    sink_refused: bool,
 }
 
 impl<S: Store + Drop> Machine<S> {
@@ -30,6 +31,7 @@ impl<S: Store + Drop> Machine<S> {
             alloc,
             store: Some(store),
             steps_taken: 0,
+            sink_refused: false,
         }
     }
 
@@ -80,6 +82,7 @@ impl<S: Store + Drop> Machine<S> {
         let ended = run_main(self.alloc, program, store, args, steps, sink);
         self.store = Some(ended.store);
         self.steps_taken = ended.taken;
+        self.sink_refused = ended.sink_refused;
         ended.stop
     }
 
@@ -88,6 +91,13 @@ impl<S: Store + Drop> Machine<S> {
         ensures { result ≡ self.now.steps_taken }
     {
         self.steps_taken
+    }
+
+    /// Whether the sink refused a call in the run, so that it isn't to be used any more.
+    pub fn sink_refused(&self) -> bool
+        ensures { result ≡ self.now.sink_refused }
+    {
+        self.sink_refused
     }
 
     /// The store, with the heap that the run left.

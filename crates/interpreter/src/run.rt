@@ -27,6 +27,7 @@ pub struct Ended<S> {
     pub store: S,
     pub taken: u64,
     pub stop: Option<RunStop>,
+    pub sink_refused: bool,
 }
 
 /// The frames and the locals with which the body of `main` begins.
@@ -55,6 +56,7 @@ pub fn run_main<S: Store + Drop, O: Sink>(
             store,
             taken: 0,
             stop: None,
+            sink_refused: false,
         };
     };
     match begin(alloc, main, &mut store, args) {
@@ -63,6 +65,7 @@ pub fn run_main<S: Store + Drop, O: Sink>(
             store,
             taken: 0,
             stop: Some(stop),
+            sink_refused: false,
         },
     }
 }
@@ -124,11 +127,13 @@ fn run_body<'p, S: Store + Drop, O: Sink>(
         alloc,
     };
     let ended = running.drive(Focus::Answer(Outcome::Normal), sink);
+    let sink_refused = matches!(ended, Err(EarlyEnd::Refused(_)));
     let stop = running.stop(ended);
     Ended {
         store: running.store,
         taken: running.taken,
         stop,
+        sink_refused,
     }
 }
 

@@ -1,10 +1,8 @@
 -- Calls behind a dot: which method they mean.
-use Rattle.std.proofs.Common.{◌≡◌, ◌∙◌, ℕ, List, [], Option, Some, None, length, map, refl, sym, ap}
+use Rattle.std.proofs.Common.{◌≡◌, ℕ, List, [], Option, Some, None, length, map, refl}
 use Rattle.std.proofs.lemmas.List.{length-map}
 use Rattle.std.specs.Prelude.{option_map}
 use Rattle.std.specs.Option.{option_map_or}
-use Rattle.core_tree.specs.declared.expr.Expr.{Expr as Core}
-use Rattle.core_tree.specs.declared.ty.Ty.{Ty}
 use Rattle.core_tree.specs.Types.{class_of}
 use Rattle.java_syntax.specs.declared.name.Ident.{Ident}
 use Rattle.java_syntax.specs.declared.expression.Expr.{Expr}
@@ -16,7 +14,7 @@ use Rattle.java_exprs.specs.declared.typed.Denotation.{Denotation}
 use Rattle.java_exprs.specs.declared.typed.Denotation.TheVariants as denotes
 use Rattle.java_exprs.specs.Attr.{Attr}
 use Rattle.java_exprs.specs.Checks.{attr}
-use Rattle.java_exprs.specs.Members.{Calling, calling_behind, object_class}
+use Rattle.java_exprs.specs.Members.{Calling, calling_behind}
 use Rattle.java_exprs.specs.Denotes.{denotes_of, library_method}
 use Rattle.java_exprs.specs.Lookups.{class_named, method_of, superclass_of}
 use Rattle.throw_check.specs.Points.{maker_throws, node_throws, points_at, points_here}

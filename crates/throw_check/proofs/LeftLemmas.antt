@@ -1,8 +1,7 @@
 -- Which points break rule 23.
-use Rattle.std.proofs.Common.{◌≡◌, ◌∙◌, ℕ, Bool, true, false, not, ◌||◌, ◌&&◌, List, [], ◌∷◌, ◌++◌, ◌-◌, length, take, map, refl, sym, ap, arith, inl}
-use Rattle.std.specs.List.{list_any, filter}
+use Rattle.std.proofs.Common.{◌≡◌, ℕ, Bool, true, false, not, ◌||◌, ◌&&◌, List, [], ◌∷◌, ◌++◌, ◌-◌, length, take, refl, sym, ap, arith, inl}
+use Rattle.std.specs.List.{list_any}
 use Rattle.std.specs.Prelude.{Result}
-use Rattle.java_syntax.specs.declared.fault.Fault.{Fault}
 use Rattle.java_names.specs.declared.symbol.Symbols.{Symbols}
 use Rattle.java_syntax.specs.declared.fault.CheckError.{CheckError}
 use Rattle.java_exprs.specs.Checks.{Has, Refuses}
@@ -13,7 +12,7 @@ use Rattle.throw_check.specs.Files.{broken_at, broken_at_points, unhandled}
 use Rattle.throw_check.specs.Classes.{is_checked, is_covered, is_declared}
 use Rattle.throw_check.specs.Statements.{uncaught}
 use Rattle.java_exprs.specs.declared.environment.Environment.{Environment}
-use Rattle.std.proofs.lemmas.List.{append-nil, map-append, length-append}
+use Rattle.std.proofs.lemmas.List.{map-append, length-append}
 use Rattle.std.proofs.Math.Seq.{take-append_seam}
 use Rattle.std.proofs.lemmas.List.Folds.{list_any-append}
 use Rattle.std.proofs.lemmas.List.Elements.{filter-append}
@@ -115,11 +114,3 @@ handles_behind s h xs ys r none is = rw (left_both s h xs ys, none) is
 pub handles_whole : {T : Type 0} (env : Environment) (lists : List (List ℕ)) (points : List Point) (h : Handlers) (r : Result T CheckError)
     → h ≡ record { declared = lists; caught = [] } → Handles (faults_left env.symbols h points) r → Handles (broken_at_points (unhandled env lists points)) r
 handles_whole env lists points h r is handled = rw (sym (left_whole env lists points)) (rw is at handled)
-
--- ---- what is broken in two parts
-
-pub handles_after : {T : Type 0} (xs ys : List Fault) (r : Result T CheckError) → xs ≡ [] → Handles ys r → Handles (xs ++ ys) r
-handles_after xs ys r none is = rw none is
-
-pub handles_before : {T : Type 0} (xs ys : List Fault) (r : Result T CheckError) → ys ≡ [] → Handles xs r → Handles (xs ++ ys) r
-handles_before xs ys r none is = rw (none, append-nil) is

@@ -2,7 +2,6 @@ pub mod PointLemmas
 pub mod StatementLemmas
 pub mod Rows
 pub mod LeftLemmas
-pub mod ExpressionLemmas
 pub mod CallLemmas
 pub mod TypeLemmas
 pub mod NodeLemmas

@@ -1,5 +1,5 @@
 -- What a call behind a dot gives and throws, by the first token and what it denotes that stands before the dot.
-use Rattle.std.proofs.Common.{◌≡◌, ◌∙◌, ℕ, List, [], Option, Some, None, refl, sym, ap}
+use Rattle.std.proofs.Common.{◌≡◌, ◌∙◌, ℕ, List, [], Option, Some, None, refl}
 use Rattle.std.specs.Option.{option_map_or}
 use Rattle.core_tree.specs.Types.{class_of}
 use Rattle.java_syntax.specs.declared.name.Ident.{Ident}
@@ -14,7 +14,7 @@ use Rattle.java_exprs.specs.Members.{calling_behind}
 use Rattle.java_exprs.specs.Denotes.{call_denotes, denotes_of, library_method}
 use Rattle.java_exprs.specs.Rules.{method_at}
 use Rattle.throw_check.specs.declared.known.Known.{Known}
-use Rattle.throw_check.specs.Points.{node_throws, points_here, points_at}
+use Rattle.throw_check.specs.Points.{node_throws, points_here}
 use Rattle.throw_check.specs.Statements.{thrown_points}
 use Rattle.throw_check.specs.Walks.{IsKnown, seen}
 use Rattle.throw_check.proofs.CallLemmas.{on_object}

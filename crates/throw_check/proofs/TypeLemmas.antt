@@ -1,5 +1,5 @@
 -- Bases of types whose names are unknown.
-use Rattle.std.proofs.Common.{◌≡◌, ℕ, Bool, true, false, List, [], ◌∷◌, Option, Some, None, refl}
+use Rattle.std.proofs.Common.{◌≡◌, ℕ, List, [], ◌∷◌, Option, Some, None, refl}
 use Rattle.std.specs.Prelude.{is_none, if◌then◌else◌}
 use Rattle.core_tree.specs.declared.ty.Ty.{Ty}
 use Rattle.java_syntax.specs.declared.fault.Fault.{Fault}

@@ -14,7 +14,7 @@ use crate::{calls, names, types};
 use core_tree::Ty;
 use java_exprs::Denotation;
 use java_names::{Scope, Symbols};
-use java_syntax::{BinaryOp, CheckError, Expr, Ident, UnaryOp};
+use java_syntax::{BinaryOp, CheckError, Expr, Ident, TypeTree, UnaryOp};
 use std::alloc::Global;
 
 /// What is known of an expression, where all checked exceptions are handled that it may throw.
@@ -48,13 +48,7 @@ pub fn expr(
             each(alloc, symbols, scope, handlers, xs.as_slice())?;
             calls::call(alloc, symbols, scope, handlers, m, xs.as_slice())
         }
-        Expr::Paren(at, e) => {
-            let e = expr(alloc, symbols, scope, handlers, e.get())?;
-            Ok(Known {
-                at: *at,
-                denotes: e.into_value(),
-            })
-        }
+        Expr::Paren(at, e) => paren(alloc, symbols, scope, handlers, *at, e.get()),
         Expr::Super(at, m, xs) => {
             each(alloc, symbols, scope, handlers, xs.as_slice())?;
             calls::super_call(alloc, symbols, scope, handlers, *at, m, xs.as_slice())
@@ -68,53 +62,115 @@ pub fn expr(
             let denotes = types::array(alloc, symbols, base, *dimensions)?;
             Ok(Known { at: *at, denotes })
         }
-        Expr::Field(o, f) => {
-            let o = expr(alloc, symbols, scope, handlers, o.get())?;
-            let denotes = names::field(alloc, symbols, &o, f)?;
-            Ok(Known { at: o.at, denotes })
-        }
+        Expr::Field(o, f) => field(alloc, symbols, scope, handlers, o.get(), f),
         Expr::Method(o, m, xs) => {
-            method(
-                alloc,
-                symbols,
-                scope,
-                handlers,
-                e,
-                o.get(),
-                m,
-                xs.as_slice(),
-            )
+            let xs = xs.as_slice();
+            method(alloc, symbols, scope, handlers, e, o.get(), m, xs)
         }
         Expr::Element(a, i) => element(alloc, symbols, scope, handlers, e, a.get(), i.get()),
-        Expr::Unary(at, op, e) => {
-            expr(alloc, symbols, scope, handlers, e.get())?;
-            Ok(Known::value(*at, types::unary(*op)))
-        }
-        Expr::Cast(at, ty, e) => {
-            expr(alloc, symbols, scope, handlers, e.get())?;
-            let denotes = types::spelled(alloc, symbols, ty)?;
-            Ok(Known { at: *at, denotes })
-        }
+        Expr::Unary(at, op, e) => unary(alloc, symbols, scope, handlers, *at, *op, e.get()),
+        Expr::Cast(at, ty, e) => cast(alloc, symbols, scope, handlers, *at, ty, e.get()),
         Expr::Binary(op, l, r) => {
             binary(alloc, symbols, scope, handlers, e, *op, l.get(), r.get())
         }
-        Expr::InstanceOf(e, _) => {
-            let e = expr(alloc, symbols, scope, handlers, e.get())?;
-            Ok(Known::value(e.at, Ty::Bool))
-        }
+        Expr::InstanceOf(e, ty) => instance_of(alloc, symbols, scope, handlers, e.get(), ty),
         Expr::Conditional(c, a, b) => {
-            conditional(
-                alloc,
-                symbols,
-                scope,
-                handlers,
-                e,
-                c.get(),
-                a.get(),
-                b.get(),
-            )
+            let b = b.get();
+            conditional(alloc, symbols, scope, handlers, e, c.get(), a.get(), b)
         }
     }
+}
+
+// `(e)`
+#[cycle(expressions)]
+fn paren(
+    alloc: Global,
+    symbols: &Symbols,
+    scope: &Scope,
+    handlers: &Handlers,
+    at: u32,
+    e: &Expr,
+) -> Result<Known, CheckError>
+    ensures known { IfOk result (λ k. IsKnown (attr_at (types_env symbols.now) scope.now (Expr-F.Paren at (attr (types_env symbols.now) scope.now e.now))) k) }
+    ensures handled { Handles (faults_left symbols.now handlers.now (expr_points (types_env symbols.now) scope.now e.now)) result }
+{
+    let e = expr(alloc, symbols, scope, handlers, e)?;
+    Ok(Known {
+        at,
+        denotes: e.into_value(),
+    })
+}
+
+// `o.f`
+#[cycle(expressions)]
+fn field(
+    alloc: Global,
+    symbols: &Symbols,
+    scope: &Scope,
+    handlers: &Handlers,
+    o: &Expr,
+    f: &Ident,
+) -> Result<Known, CheckError>
+    ensures known { IfOk result (λ k. IsKnown (attr_at (types_env symbols.now) scope.now (Expr-F.Field (attr (types_env symbols.now) scope.now o.now) f.now)) k) }
+    ensures handled { Handles (faults_left symbols.now handlers.now (expr_points (types_env symbols.now) scope.now o.now)) result }
+{
+    let o = expr(alloc, symbols, scope, handlers, o)?;
+    let denotes = names::field(alloc, symbols, &o, f)?;
+    Ok(Known { at: o.at, denotes })
+}
+
+// An operator before an expression.
+#[cycle(expressions)]
+fn unary(
+    alloc: Global,
+    symbols: &Symbols,
+    scope: &Scope,
+    handlers: &Handlers,
+    at: u32,
+    op: UnaryOp,
+    e: &Expr,
+) -> Result<Known, CheckError>
+    ensures known { IfOk result (λ k. IsKnown (attr_at (types_env symbols.now) scope.now (Expr-F.Unary at op (attr (types_env symbols.now) scope.now e.now))) k) }
+    ensures handled { Handles (faults_left symbols.now handlers.now (expr_points (types_env symbols.now) scope.now e.now)) result }
+{
+    expr(alloc, symbols, scope, handlers, e)?;
+    Ok(Known::value(at, types::unary(op)))
+}
+
+// `(T) e`
+#[cycle(expressions)]
+fn cast(
+    alloc: Global,
+    symbols: &Symbols,
+    scope: &Scope,
+    handlers: &Handlers,
+    at: u32,
+    ty: &TypeTree,
+    e: &Expr,
+) -> Result<Known, CheckError>
+    ensures known { IfOk result (λ k. IsKnown (attr_at (types_env symbols.now) scope.now (Expr-F.Cast at ty.now (attr (types_env symbols.now) scope.now e.now))) k) }
+    ensures handled { Handles (faults_left symbols.now handlers.now (expr_points (types_env symbols.now) scope.now e.now)) result }
+{
+    expr(alloc, symbols, scope, handlers, e)?;
+    let denotes = types::spelled(alloc, symbols, ty)?;
+    Ok(Known { at, denotes })
+}
+
+// `e instanceof T`
+#[cycle(expressions)]
+fn instance_of(
+    alloc: Global,
+    symbols: &Symbols,
+    scope: &Scope,
+    handlers: &Handlers,
+    e: &Expr,
+    ty: &TypeTree,
+) -> Result<Known, CheckError>
+    ensures known { IfOk result (λ k. IsKnown (attr_at (types_env symbols.now) scope.now (Expr-F.InstanceOf (attr (types_env symbols.now) scope.now e.now) ty.now)) k) }
+    ensures handled { Handles (faults_left symbols.now handlers.now (expr_points (types_env symbols.now) scope.now e.now)) result }
+{
+    let e = expr(alloc, symbols, scope, handlers, e)?;
+    Ok(Known::value(e.at, Ty::Bool))
 }
 
 // `o.m(a, b)`

@@ -1,7 +1,10 @@
 //! Rule 23: a checked exception is neither caught nor declared.
 //!
-//! Read `specs/Classes` (which classes are checked, and what covers one), `specs/Points` and `specs/Statements` (where an
-//! expression and a statement may throw), and `specs/Files`, whose `faults_of` is what the crate is about.
+//! The one public contract is that of `check`: Ok exactly where the rule is kept, and a fault only where it is broken at that
+//! token. Read `specs/Classes` (which classes are checked, and what covers one), `specs/Points` and `specs/Statements` (where
+//! an expression and a statement may throw), `specs/Files`, whose `faults_of` is what the crate is about, and `specs/Walks`
+//! (what a walk through a file answers); then `handlers`, `expression` with `calls`, `names`, `library` and `types`,
+//! `statements` with `locals`, `jumps`, `blocks`, `loops` and `tries`, and `declared`, `bodies` and `file`.
 #![tactic(auto)]
 
 mod blocks;

@@ -6,7 +6,6 @@ use Rattle.java_syntax.specs.declared.statement.CatchTree.{CatchTree}
 use Rattle.java_syntax.specs.declared.statement.Stmt.{Stmt}
 use Rattle.java_names.specs.declared.scope.Scope.{Scope}
 use Rattle.java_exprs.specs.Checks.{Refuses}
-use Rattle.throw_check.specs.declared.handlers.Handlers.{Handlers}
 use Rattle.throw_check.specs.Points.{types_env}
 use Rattle.throw_check.specs.Statements.{behind, behind_all, branch, clause, in_order, points, uncaught, with_points}
 use Rattle.throw_check.specs.Walks.{classes_of, clauses_points, faults_left, outside_try}

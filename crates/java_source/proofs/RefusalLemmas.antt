@@ -6,6 +6,7 @@ use Rattle.java_syntax.specs.declared.fault.Fault.{Fault}
 use Rattle.java_syntax.specs.declared.fault.CheckError.{CheckError}
 use Rattle.java_syntax.specs.declared.fault.CheckError.TheVariants as check
 use Rattle.java_syntax.specs.declared.class.FileTree.{FileTree}
+use Rattle.java_syntax.specs.Height.{file_height}
 use Rattle.java_syntax.specs.Spells.{Spells}
 use Rattle.java_parse.specs.declared.error.ParseError.{ParseError}
 use Rattle.java_parse.specs.declared.error.ParseError.TheVariants as parse
@@ -38,7 +39,17 @@ module _ (bytes : List ℕ) (few : length bytes ≤ most_bytes) (tokens : List T
       rw told (record { few = few; tokens = tokens; read = read; high = cause.0; many = cause.1 })
   refuses_unparsed parse.OutOfMemory made cause told = rw told (tt {0})
 
-  pub refuses_broken : (tree : FileTree) (f : Fault) → Spells tree tokens → IsOnlyTree tree tokens → IsBroken tree f
+  pub refuses_broken : (tree : FileTree) (f : Fault) → Spells tree tokens → file_height tree ≤ 200 → IsOnlyTree tree tokens → IsBroken tree f
       → IsRefused bytes (error.Refused (rule_refusal tokens f))
-  refuses_broken tree f spelled only broken =
-      record { few = few; tokens = tokens; read = read; tree = tree; spelled = spelled; only = only; fault = f; broken = broken; told = refl }
+  refuses_broken tree f spelled low only broken = record {
+    few = few;
+    tokens = tokens;
+    read = read;
+    tree = tree;
+    spelled = spelled;
+    low = low;
+    only = only;
+    fault = f;
+    broken = broken;
+    told = refl;
+  }

@@ -48,3 +48,7 @@ pub record Accepted (bytes : List ℕ) (program : Program) : Type 0 where
   pub tokens : List Token
   pub read : AreTokens bytes tokens
   pub program_is : IsProgramOf tokens program
+
+-- each program of the bytes, where they are accepted, is this one
+abbrev pub IsOnlyProgram : List ℕ → Program → Type 0
+IsOnlyProgram bytes program = (other : Program) → Accepted bytes other → other ≡ program

@@ -79,7 +79,7 @@ pub record IsMalformed (bytes : List ℕ) (line column : ℕ) : Type 0 where
   pub none : SpellsNothing tokens
   pub place : IsPlaceAmong tokens (record { line = line; column = column })
 
--- or only such trees spell them as are too high
+-- or no tree spells them, or only such as are too high
 pub record IsTooHigh (bytes : List ℕ) : Type 0 where
   pub few : length bytes ≤ most_bytes
   pub tokens : List Token
@@ -95,13 +95,14 @@ refusal_at rule place = refusal.Fault rule place.line place.column
 abbrev pub rule_refusal : List Token → Fault → SourceRefusal
 rule_refusal tokens f = refusal_at f.rule (place_of tokens f.at)
 
--- the bytes have one tree, which breaks this rule at the token that stands at this place
+-- the bytes have one tree, which isn't too high and breaks this rule at the token that stands at this place
 pub record BreaksRule (bytes : List ℕ) (rule line column : ℕ) : Type 0 where
   pub few : length bytes ≤ most_bytes
   pub tokens : List Token
   pub read : AreTokens bytes tokens
   pub tree : FileTree
   pub spelled : Spells tree tokens
+  pub low : file_height tree ≤ 200
   pub only : IsOnlyTree tree tokens
   pub fault : Fault
   pub broken : IsBroken tree fault

@@ -1,10 +1,12 @@
 //! The stages from bytes to a program.
 
-ghost use Rattle.std.specs.Prelude.{◌≡◌, ◌<◌, ◌≤◌, length, IfErr, IfOk, OnOk};
+ghost use Rattle.std.specs.Prelude.{◌≡◌, ◌<◌, ◌≤◌, List, length, IfErr, IfOk, OnOk};
+ghost use Rattle.core_tree.specs.WellTyped.{IsWellTyped};
+ghost use Rattle.java_syntax.specs.Spells.{Spells};
 ghost use Rattle.class_table.specs.Faults.{Blames};
 ghost use Rattle.class_table.specs.Table.{table_of};
 ghost use Rattle.java_types.specs.Files as types;
-ghost use Rattle.java_source.specs.Accepted.{Accepted, BreaksNoRule, IsBroken};
+ghost use Rattle.java_source.specs.Accepted.{Accepted, BreaksNoRule, IsBroken, IsOnlyProgram};
 ghost use Rattle.java_source.specs.Refused.{IsRefused, TellsNoTree, rule_refusal};
 
 use crate::place::{place_of, stopped_at};
@@ -17,17 +19,20 @@ use java_tokens::{Token, tokens};
 use java_types::resolve;
 use std::alloc::Global;
 use throw_check::check;
+use typing_law::programs_are_typed;
 
 /// The bytes of the longest source.
 pub const MOST_BYTES: usize = 1_048_576;
 
-/// The resolved program of a source.
+/// The resolved program of a source: it has no other one, and is well typed.
 ///
 /// # Errors
 /// `Refused` where the source isn't accepted, by the first of these that refuses: its size, tokens, tree, and the checks
 /// of classes, of names and types, and of thrown exceptions. `OutOfMemory` may come for any source.
 pub fn program_of(alloc: Global, bytes: &[u8]) -> Result<Program, SourceError>
     ensures program { IfOk result (Accepted bytes.now) }
+    ensures only { IfOk result (IsOnlyProgram bytes.now) }
+    ensures typed { IfOk result IsWellTyped }
     ensures refused { IfErr result (IsRefused bytes.now) }
 {
     if bytes.len() > MOST_BYTES {
@@ -45,15 +50,17 @@ pub fn program_of(alloc: Global, bytes: &[u8]) -> Result<Program, SourceError>
     }
 }
 
-// The resolved program of a tree that breaks no rule.
+// The resolved program of a tree that breaks no rule. Where the tree spells some tokens, the program is well typed.
 fn checked(alloc: Global, tree: &FileTree) -> Result<Program, CheckError>
     ensures program { IfOk result (λ program. program ≡ types.program_of (table_of tree.now) tree.now) }
     ensures clear { OnOk result (BreaksNoRule tree.now) }
+    ensures typed { (tokens : List Token) → Spells tree.now tokens → IfOk result IsWellTyped }
     ensures fault { IfErr result (Blames (IsBroken tree.now)) }
 {
     let table = table(alloc, tree)?;
     let program = resolve(alloc, &table, tree)?;
     check(alloc, &table, tree)?;
+    programs_are_typed();
     Ok(program)
 }
 

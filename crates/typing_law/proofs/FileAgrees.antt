@@ -12,7 +12,7 @@ use Rattle.java_names.specs.declared.symbol.FieldSymbol.{FieldSymbol}
 use Rattle.java_exprs.specs.Lookups.{member_of}
 use Rattle.java_types.specs.Files.{declared_faults, env_of, program_in, reading_of}
 use Rattle.typing_law.specs.Agrees.{Agrees, AgreesOnField}
-use Rattle.typing_law.specs.Tokens.{HasOwnTokens}
+use Rattle.token_law.specs.Tokens.{HasOwnTokens}
 use Rattle.typing_law.proofs.Tables.{line_short, length_rows}
 use Rattle.typing_law.proofs.FileLookups.{calls_agree}
 use Rattle.typing_law.proofs.FileMembers.{field_found, field_placed, field_value}

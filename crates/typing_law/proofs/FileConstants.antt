@@ -46,7 +46,7 @@ use Rattle.java_types.specs.Constants.{Reading, initialiser_folded, is_initialis
 use Rattle.java_types.specs.Declarations.{declared_10, declared_11, declared_20, declaration_faults, is_constant_type, constant_type_20, field_words_20, constant_scope}
 use Rattle.java_types.specs.Files.{of_members, env_of, reading_of}
 use Rattle.typing_law.specs.Agrees.{is_literal_of}
-use Rattle.typing_law.specs.Tokens.{HasOwnTokens}
+use Rattle.token_law.specs.Tokens.{HasOwnTokens}
 use Rattle.typing_law.proofs.TypeFacts as facts
 use Rattle.typing_law.proofs.NoFaults.{empty_parts, empty_rule, unless_empty, only_if_empty, no_place}
 use Rattle.typing_law.proofs.Scopes.{get_before}

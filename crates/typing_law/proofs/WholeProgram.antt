@@ -19,7 +19,7 @@ use Rattle.java_exprs.specs.declared.literal.Literal.{Literal}
 use Rattle.java_types.specs.Declarations.{declaration_faults}
 use Rattle.java_types.specs.Files.{of_members, of_made, member_faults, made_faults, core_class, declared_faults, body_faults, then_faults, faults_of, env_of, reading_of, program_of}
 use Rattle.typing_law.specs.Agrees.{Agrees}
-use Rattle.typing_law.specs.Tokens.{HasOwnTokens}
+use Rattle.token_law.specs.Tokens.{HasOwnTokens}
 use Rattle.typing_law.proofs.FileAgrees.{file_agrees, short_lines}
 use Rattle.typing_law.proofs.NoFaults.{empty_parts}
 use Rattle.typing_law.proofs.Tables.{env_with, program_with}

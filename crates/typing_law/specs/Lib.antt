@@ -2,4 +2,3 @@ pub mod Means
 pub mod Agrees
 pub mod Scopes
 pub mod Starts
-pub mod Tokens

@@ -3,7 +3,7 @@
 //!
 //! The one contract is that of `programs_are_typed`; there is no other code here. The words of its proof are in `specs`: what
 //! must be so between the symbols of a file and its program (`Agrees`), what the resolved form of an expression must be
-//! (`Means`), what is known of a scope (`Scopes`), and that each name is a token of its own (`Tokens`).
+//! (`Means`), and what is known of a scope (`Scopes`). That each name is a token of its own is the law of `token_law`.
 //!
 //! Of the proofs read `WholeProgram`, which puts the parts together, and the list of these parts in `WholeLists`; then
 //! `NodeKinds`, `Dots` and `Operators` (each kind of expression), `Exprs`, `BodyNodes` and `BodyParts` (each kind of statement),

@@ -1,0 +1,6 @@
+mod Onward
+mod OnwardExprs
+mod OnwardStmts
+mod OnwardMembers
+mod Rising
+mod FileRising

@@ -42,3 +42,10 @@ fault-text-parts kind at = append_assoc (kind ++ codes " at byte ") at (10 ∷ [
 -- a place: its line, a colon, its column, and a line feed
 pub place-text : (line column : List ℕ) → ((line ++ 58 ∷ []) ++ column) ++ 10 ∷ [] ≡ line ++ 58 ∷ (column ++ 10 ∷ [])
 place-text line column = append_assoc (line ++ 58 ∷ []) column (10 ∷ []) ∙ append_assoc line (58 ∷ []) (column ++ 10 ∷ [])
+
+-- a rule and a place: its number, the place, and a line feed
+pub rule-text : (rule line column : List ℕ) → ((rule ++ codes " at ") ++ ((line ++ 58 ∷ []) ++ column)) ++ 10 ∷ [] ≡ rule ++ (codes " at " ++ (line ++ 58 ∷ (column ++ 10 ∷ [])))
+rule-text rule line column =
+    append_assoc (rule ++ codes " at ") ((line ++ 58 ∷ []) ++ column) (10 ∷ [])
+    ∙ append_assoc rule (codes " at ") (((line ++ 58 ∷ []) ++ column) ++ 10 ∷ [])
+    ∙ ap (λ rest. rule ++ (codes " at " ++ rest)) (place-text line column)

@@ -1,10 +1,5 @@
 pub mod Command
 pub mod Words
-pub mod Syntax
-pub mod Resolution
-pub mod Accepted
-pub mod Reading
-pub mod Reads
 pub mod Report
 pub mod Causes
 pub mod Headline

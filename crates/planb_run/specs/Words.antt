@@ -10,4 +10,4 @@ texts words = map string_bytes words
 
 -- the command that a command line holds
 abbrev pub command_of : CommandLine → Command
-command_of line = record { file = line.file.now; steps = line.steps }
+command_of line = record { file = line.file.now; arguments = texts line.arguments.now; steps = line.steps }

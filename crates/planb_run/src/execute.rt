@@ -1,39 +1,87 @@
-ghost use Rattle.small_interpreter.specs.WellTyped.{IsWellTyped};
-ghost use Rattle.planb_run.specs.Stages.{Executes};
+ghost use Rattle.std.specs.Prelude.{◌≡◌, IsTrue, map};
+ghost use Rattle.core_tree.specs.WellTyped.{IsWellTyped};
+ghost use Rattle.interpreter.specs.Machine.{text_of};
+ghost use Rattle.planb_run.specs.Causes.{run_stop};
+ghost use Rattle.planb_run.specs.Stages.{Executes, Flushes, MayBeRefused};
 
 use crate::Stop;
+use core_tree::Program;
+use heap_arena::CopyStore;
+use interpreter::{Machine, RunStop};
 use pb_io::{OutsideFault, Sink};
-use small_interpreter::{Machine, Program, RunStop};
 use std::alloc::Global;
 
 /// Why a run stopped, and how many steps it took.
-#[derive(Clone, Copy, Debug)]
-pub struct Performed {
+#[derive(Drop)]
+pub struct Executed {
     pub stop: Stop,
     pub steps: u64,
 }
 
-/// Runs a program with a budget of steps and flushes the output, whatever the run's ending, unless the run was refused
-/// a write: then the output isn't used again.
-pub fn execute<O: Sink>(alloc: Global, program: &Program, budget: u64, out: &mut O) -> Performed
+/// Runs a program with these arguments and a budget of steps and flushes the output, whatever the run's ending, unless a
+/// call of the output was refused in the run: then the output isn't used again.
+pub fn execute<O: Sink>(
+    alloc: Global,
+    program: &Program,
+    arguments: &[String],
+    budget: u64,
+    out: &mut O,
+) -> Executed
     requires { IsWellTyped program.now }
-    ensures { Executes program.now budget (O.state out.old) (O.state out.new) result.stop result.steps }
+    ensures { Executes program.now (map text_of arguments.now) budget
+        (O.state out.old) (O.state out.new) result.stop result.steps }
 {
-    let mut machine = Machine::new(alloc);
-    let stop = match machine.run(program, budget, out) {
+    let store = match CopyStore::new(alloc, program) {
+        Ok(store) => store,
+        Err(_) => return Executed {
+            stop: Stop::OutOfMemory,
+            steps: 0,
+        },
+    };
+    let mut machine = Machine::new(alloc, store);
+    let stop = stop_of(machine.run(program, arguments, budget, out), budget);
+    let steps = machine.steps_taken();
+    if is_refused(&stop, machine.sink_refused()) {
+        return Executed { stop, steps };
+    }
+    Executed {
+        stop: flushed(out, stop),
+        steps,
+    }
+}
+
+// The stop of a run with this budget.
+fn stop_of(ended: RunStop, budget: u64) -> Stop
+    ensures { result ≡ run_stop ended budget }
+{
+    match ended {
         RunStop::Done => Stop::Done,
+        RunStop::Uncaught { class, message } => Stop::Uncaught { class, message },
         RunStop::StepsSpent => Stop::StepsSpent(budget),
+        RunStop::Full(what) => Stop::Full(what),
         RunStop::OutOfMemory => Stop::OutOfMemory,
         RunStop::WriteFault => Stop::WriteFault,
-    };
-    let steps = machine.steps_taken();
-    if machine.sink_refused() {
-        return Performed { stop, steps };
     }
-    let stop = match out.flush() {
+}
+
+// Whether the output refused a call in the run.
+fn is_refused(stop: &Stop, sink_refused: bool) -> bool
+    ensures { IsTrue result → MayBeRefused stop.now }
+{
+    match stop {
+        Stop::WriteFault => true,
+        Stop::OutOfMemory => sink_refused,
+        _ => false,
+    }
+}
+
+// Flushes the output. The stop stays, unless the flush failed.
+fn flushed<O: Sink>(out: &mut O, stop: Stop) -> Stop
+    ensures { Flushes (O.state out.old) (O.state out.new) stop result }
+{
+    match out.flush() {
         Ok(()) => stop,
         Err(OutsideFault::Failed) => Stop::WriteFault,
         Err(OutsideFault::OutOfMemory) => Stop::OutOfMemory,
-    };
-    Performed { stop, steps }
+    }
 }

@@ -2,7 +2,7 @@
 
 ghost use Rattle.std.specs.Prelude.{◌<◌};
 
-use crate::{Ending, Reported, SourceRefusal, Stop, planb};
+use crate::{Ending, Reported, planb};
 use pb_io::{MemFiles, MemSink};
 use std::alloc::{AllocError, Global};
 use std::process::Abort;
@@ -68,27 +68,27 @@ fn main_with(alloc: Global, body: &str) -> Result<String, AllocError> {
     format!(in alloc; "class Main {{ public static void main(String[] args) {{ {body} }} }}")
 }
 
-// A call, by its words and the body of main, and what it gives.
+// A call, by its words and the body of main, and what it gives. Where no steps are named, any will do.
 #[derive(Clone, Copy)]
 struct Row<'a> {
     words: &'a [&'a str],
     body: &'a str,
     output: &'a str,
-    stop: Stop,
     status: u8,
-    steps: u64,
+    steps: Option<u64>,
     report: &'a str,
 }
+
+const FILE: &[&str] = &["planb", "F"];
 
 const USAGE: &str =
     "usage: planb [--steps N] [--conflicts N] [--proof] (FILE [ARG..] | --make N)\n";
 
-fn done<'a>(words: &'a [&'a str], body: &'a str, output: &'a str, steps: u64) -> Row<'a> {
+fn done<'a>(words: &'a [&'a str], body: &'a str, output: &'a str, steps: Option<u64>) -> Row<'a> {
     Row {
         words,
         body,
         output,
-        stop: Stop::Done,
         status: 0,
         steps,
         report: "",
@@ -100,67 +100,47 @@ fn spent<'a>(words: &'a [&'a str], body: &'a str, steps: u64, report: &'a str) -
         words,
         body,
         output: "",
-        stop: Stop::StepsSpent(steps),
         status: 4,
-        steps,
+        steps: Some(steps),
+        report,
+    }
+}
+
+// An exception, or no room, ended the program.
+fn ended<'a>(body: &'a str, status: u8, report: &'a str) -> Row<'a> {
+    Row {
+        words: FILE,
+        body,
+        output: "",
+        status,
+        steps: None,
         report,
     }
 }
 
 // Stopped before a run.
-fn stopped<'a>(
-    words: &'a [&'a str],
-    body: &'a str,
-    stop: Stop,
-    status: u8,
-    report: &'a str,
-) -> Row<'a> {
+fn stopped<'a>(words: &'a [&'a str], body: &'a str, status: u8, report: &'a str) -> Row<'a> {
     Row {
         words,
         body,
         output: "",
-        stop,
         status,
-        steps: 0,
+        steps: Some(0),
         report,
     }
 }
 
-fn refused<'a>(body: &'a str, column: u32, report: &'a str) -> Row<'a> {
-    let why = SourceRefusal::Syntax { line: 1, column };
-    stopped(&["planb", "F"], body, Stop::Refused(why), 3, report)
+fn refused<'a>(body: &'a str, report: &'a str) -> Row<'a> {
+    stopped(FILE, body, 3, report)
 }
 
 fn usage<'a>(words: &'a [&'a str]) -> Row<'a> {
-    stopped(words, "", Stop::Usage, 2, USAGE)
+    stopped(words, "", 2, USAGE)
 }
 
-#[test]
-fn runs_programs(rt: HostRuntime) -> Result<(), Fail> {
-    let sum = "System.out.println(1 + 2);";
-    let wrapped = "System.out.println(2147483647 + 1);";
-    let local = "int x = 2; System.out.println(x - 5);";
-    let rows = [
-        done(&["planb", "F"], sum, "3\n", 4),
-        done(&["planb", "--steps", "4", "F"], sum, "3\n", 4),
-        spent(&["planb", "--steps", "3", "F"], sum, 3, "steps spent 3\n"),
-        spent(&["planb", "--steps", "0", "F"], sum, 0, "steps spent 0\n"),
-        done(&["planb", "F"], local, "-3\n", 6),
-        spent(&["planb", "--steps", "5", "F"], local, 5, "steps spent 5\n"),
-        done(&["planb", "F"], wrapped, "-2147483648\n", 4),
-        done(&["planb", "F"], "", "", 0),
-        refused("int x = 1; int x = 2;", 77, "refused syntax at 1:77\n"),
-        refused("int x = y;", 63, "refused syntax at 1:63\n"),
-        refused("int x = 2147483648;", 63, "refused syntax at 1:63\n"),
-        refused("System.out.print(1);", 66, "refused syntax at 1:66\n"),
-        stopped(&["planb", "G"], sum, Stop::ReadFault, 7, "read fault\n"),
-        usage(&[]),
-        usage(&["planb"]),
-        usage(&["planb", "--steps", "-1", "F"]),
-        usage(&["planb", "--steps", "5", "--steps", "5", "F"]),
-    ];
-    let alloc = rt.alloc();
-    for row in &rows {
+// Calls `planb` for each row, and compares.
+fn compare(rt: &impl Abort, alloc: Global, rows: &[Row]) -> Result<(), AllocError> {
+    for row in rows {
         let body = row.body;
         let source = main_with(alloc, body)?;
         let call = run_planb(
@@ -170,9 +150,12 @@ fn runs_programs(rt: HostRuntime) -> Result<(), Fail> {
             4096,
             Failing::default(),
         )?;
-        assert_eq!(rt; call.ending.stop, row.stop, "{body}");
         assert_eq!(rt; call.ending.status, row.status, "{body}");
-        assert_eq!(rt; call.ending.steps, row.steps, "{body}");
+        assert_eq!(rt;
+            call.ending.steps,
+            row.steps.unwrap_or(call.ending.steps),
+            "{body}"
+        );
         assert_eq!(rt; call.ending.reported, Reported::Whole, "{body}");
         assert_eq!(rt; call.out.written(), row.output.as_bytes(), "{body}");
         assert_eq!(rt; call.report.written(), row.report.as_bytes(), "{body}");
@@ -183,19 +166,101 @@ fn runs_programs(rt: HostRuntime) -> Result<(), Fail> {
 }
 
 #[test]
+fn runs_programs(rt: HostRuntime) -> Result<(), Fail> {
+    let sum = "System.out.println(1 + 2);";
+    let wrapped = "System.out.println(2147483647 + 1);";
+    let local = "int x = 2; System.out.println(x - 5);";
+    let argument = "System.out.println(args.length + args[0]);";
+    let rows = [
+        done(FILE, sum, "3\n", Some(4)),
+        done(&["planb", "--steps", "4", "F"], sum, "3\n", Some(4)),
+        spent(&["planb", "--steps", "3", "F"], sum, 3, "steps spent 3\n"),
+        spent(&["planb", "--steps", "0", "F"], sum, 0, "steps spent 0\n"),
+        done(FILE, local, "-3\n", Some(6)),
+        spent(&["planb", "--steps", "5", "F"], local, 5, "steps spent 5\n"),
+        done(FILE, wrapped, "-2147483648\n", Some(4)),
+        done(FILE, "", "", Some(0)),
+        done(&["planb", "F", "ab", "c"], argument, "2ab\n", None),
+        done(FILE, "System.out.println(\"é😀\");", "é😀\n", None),
+        done(FILE, "System.out.println(\"é😀\".length());", "3\n", None),
+    ];
+    Ok(compare(&rt, rt.alloc(), &rows)?)
+}
+
+#[test]
+fn tells_how_programs_end(rt: HostRuntime) -> Result<(), Fail> {
+    let endless = "while (true) { }";
+    let doubling = "String s = \"0123456789\"; while (true) { s = s + s; }";
+    let escapes = "throw new RuntimeException(\"a\\\\b\\nc\\rd\");";
+    let message = "throw new RuntimeException(\"a: \" + 3 + true + null);";
+    let rows = [
+        ended(
+            "System.out.println(1 / 0);",
+            1,
+            "uncaught ArithmeticException\n",
+        ),
+        ended(message, 1, "uncaught RuntimeException: a: 3truenull\n"),
+        ended(escapes, 1, "uncaught RuntimeException: a\\\\b\\nc\\rd\n"),
+        ended("int[] a = new int[16777215];", 8, "full cells\n"),
+        ended(doubling, 8, "full text\n"),
+        spent(
+            &["planb", "--steps", "10", "F"],
+            endless,
+            10,
+            "steps spent 10\n",
+        ),
+    ];
+    Ok(compare(&rt, rt.alloc(), &rows)?)
+}
+
+#[test]
+fn refuses_words_and_sources(rt: HostRuntime) -> Result<(), Fail> {
+    let sum = "System.out.println(1 + 2);";
+    let rows = [
+        refused("int x = 1; int x = 2;", "refused rule 10 at 1:70\n"),
+        refused("int x = y;", "refused rule 10 at 1:63\n"),
+        refused("int x = 2147483648;", "refused rule 19 at 1:63\n"),
+        stopped(&["planb", "G"], sum, 7, "read fault\n"),
+        usage(&[]),
+        usage(&["planb"]),
+        usage(&["planb", "F", "-1"]),
+        usage(&["planb", "--steps", "-1", "F"]),
+        usage(&["planb", "--steps", "5", "--steps", "5", "F"]),
+    ];
+    Ok(compare(&rt, rt.alloc(), &rows)?)
+}
+
+// A source of 300 nested parentheses.
+#[test]
+fn refuses_depth(rt: HostRuntime) -> Result<(), Fail> {
+    let alloc = rt.alloc();
+    let mut body = String::from_str(alloc, "int x = ")?;
+    for _ in 0..300 {
+        body.push('(')?;
+    }
+    body.push('1')?;
+    for _ in 0..300 {
+        body.push(')')?;
+    }
+    body.push(';')?;
+    let rows = [refused(body.as_str(), "refused depth\n")];
+    Ok(compare(&rt, alloc, &rows)?)
+}
+
+#[test]
 fn refuses_files(rt: HostRuntime) -> Result<(), Fail> {
     let alloc = rt.alloc();
     let longest = vec![in alloc; b' '; 1_048_576]?;
     let too_long = vec![in alloc; b' '; 1_048_577]?;
     let rows: [(&[u8], &[u8]); 12] = [
-        (b"", b"refused syntax at 1:1\n"),
+        (b"", b"refused rule 7 at 1:1\n"),
         (b"class Main {", b"refused syntax at 1:13\n"),
         (
             b"class Main {\r\n  // no body\r\n",
             b"refused syntax at 3:1\n",
         ),
         ("class Mé [".as_bytes(), b"refused syntax at 1:10\n"),
-        (&longest, b"refused syntax at 1:1048577\n"),
+        (&longest, b"refused rule 7 at 1:1048577\n"),
         (&too_long, b"refused too long\n"),
         (b"\xff", b"refused utf8 at byte 0\n"),
         (b"class @", b"refused character at byte 6\n"),
@@ -218,7 +283,6 @@ fn refuses_files(rt: HostRuntime) -> Result<(), Fail> {
 #[derive(Clone, Copy)]
 struct Failure<'a> {
     failing: Failing,
-    stop: Stop,
     steps: u64,
     output: &'a str,
     reported: Reported,
@@ -233,7 +297,6 @@ fn of_files(call: u64) -> Failure<'static> {
             of_files: call,
             ..Failing::default()
         },
-        stop: Stop::ReadFault,
         steps: 0,
         output: "",
         reported: Reported::Whole,
@@ -248,7 +311,6 @@ fn of_output(write: u64, flush: u64, steps: u64, output: &str) -> Failure<'_> {
             flush,
             ..Failing::default()
         },
-        stop: Stop::WriteFault,
         steps,
         output,
         reported: Reported::Whole,
@@ -263,7 +325,6 @@ fn of_report(report_write: u64, report_flush: u64, report: &str) -> Failure<'_> 
             report_flush,
             ..Failing::default()
         },
-        stop: Stop::StepsSpent(3),
         steps: 3,
         output: "1\n",
         reported: Reported::WriteFault,
@@ -283,7 +344,6 @@ fn leaves(
     let words = ["planb", "--steps", "3", "F"];
     let call = run_planb(alloc, &words, source.as_bytes(), largest, failure.failing)?;
     assert_eq!(rt; call.ending.status, 7);
-    assert_eq!(rt; call.ending.stop, failure.stop);
     assert_eq!(rt; call.ending.steps, failure.steps);
     assert_eq!(rt; call.ending.reported, failure.reported);
     assert_eq!(rt; call.out.written(), failure.output.as_bytes());

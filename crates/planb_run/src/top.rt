@@ -1,19 +1,20 @@
-ghost use Rattle.std.specs.Prelude.{◌≡◌};
+ghost use Rattle.std.specs.Prelude.{◌≡◌, option_map};
 ghost use Rattle.planb_run.specs.Words.{texts};
-ghost use Rattle.planb_run.specs.Report.{status, stop_status};
-ghost use Rattle.planb_run.specs.Headline.{RefusesWords, ReadsSource, RunsAsReference, EndsEarly, HasCauses, IsComplete, TellsStop, TellsEnding};
+ghost use Rattle.planb_run.specs.Report.{report, status, stop_status};
+ghost use Rattle.planb_run.specs.Headline.{RefusesWords, ReadsSource, RunsAsReference, EndsEarly, HasCauses, IsComplete, Tells, TellsEnding};
 ghost use Rattle.planb_run.specs.Stages.{Obeys};
 
 use crate::command::read_words;
-use crate::execute::{Performed, execute};
+use crate::execute::execute;
 use crate::load::load;
 use crate::report::write_report;
 use crate::{Ending, Reported, Stop};
+use core_tree::Program;
 use pb_io::{Files, OutsideFault, PutError, Sink};
 use std::alloc::Global;
 
 /// Does what the words of a command line ask, of which the first is the program's name: it reads the file, runs the
-/// program with its budget of steps into `out`, flushes `out`, and writes the report of the stop. The first stage that
+/// program with its arguments and budget of steps into `out`, flushes `out`, and writes the report of the stop. The first stage that
 /// fails decides the stop, and the report is written in every case.
 pub fn planb<F: Files, O: Sink, R: Sink>(
     alloc: Global,
@@ -46,8 +47,11 @@ pub fn planb<F: Files, O: Sink, R: Sink>(
         (record { files = F.state files.new; out = O.state out.new })
         result.stop result.steps }
 
-    // The report is that of the stop, or a prefix of it, and the status is that of both.
-    ensures report { TellsEnding (R.state report.old) (R.state report.new) result }
+    // The report is that of the stop and of the program that ran, or a prefix of it, and the status is that of both.
+    ensures report { TellsEnding (texts words.now)
+        (record { files = F.state files.old; out = O.state out.old })
+        (record { files = F.state files.new; out = O.state out.new })
+        (R.state report.old) (R.state report.new) result }
 
     // Each stop has its cause.
     ensures causes { HasCauses (texts words.now)
@@ -62,13 +66,21 @@ pub fn planb<F: Files, O: Sink, R: Sink>(
         result.stop result.steps }
 {
     let performed = perform(alloc, words, files, out);
-    let reported = tell(report, performed.stop);
+    let reported = tell(report, performed.program.as_ref(), &performed.stop);
     Ending {
-        status: status(performed.stop, reported),
+        status: status(&performed.stop, reported),
         steps: performed.steps,
         stop: performed.stop,
         reported,
     }
+}
+
+// What was done before the report: the program that ran, where one did, why it stopped, and how many steps it took.
+#[derive(Drop)]
+struct Performed {
+    program: Option<Program>,
+    stop: Stop,
+    steps: u64,
 }
 
 // The stages up to the report.
@@ -81,26 +93,37 @@ fn perform<F: Files, O: Sink>(
     ensures { Obeys (texts words.now)
         (record { files = F.state files.old; out = O.state out.old })
         (record { files = F.state files.new; out = O.state out.new })
-        result.stop result.steps }
+        result.program result.stop result.steps }
 {
     let Some(command) = read_words(words) else {
         return Performed {
+            program: None,
             stop: Stop::Usage,
             steps: 0,
         };
     };
-    match load(alloc, files, command.file) {
-        Ok(program) => execute(alloc, &program, command.steps, out),
-        Err(stop) => Performed { stop, steps: 0 },
+    let program = match load(alloc, files, command.file) {
+        Ok(program) => program,
+        Err(stop) => return Performed {
+            program: None,
+            stop,
+            steps: 0,
+        },
+    };
+    let executed = execute(alloc, &program, command.arguments, command.steps, out);
+    Performed {
+        program: Some(program),
+        stop: executed.stop,
+        steps: executed.steps,
     }
 }
 
 // Writes and flushes the report.
-fn tell<R: Sink>(report: &mut R, stop: Stop) -> Reported
-    ensures { TellsStop (R.state report.old) (R.state report.new) stop result }
+fn tell<R: Sink>(sink: &mut R, program: Option<&Program>, stop: &Stop) -> Reported
+    ensures { Tells (R.state sink.old) (R.state sink.new) (report (option_map (λ p. p.now) program.entry) stop.now) result }
 {
-    match write_report(report, stop) {
-        Ok(()) => match report.flush() {
+    match write_report(sink, program, stop) {
+        Ok(()) => match sink.flush() {
             Ok(()) => Reported::Whole,
             Err(OutsideFault::Failed) => Reported::WriteFault,
             Err(OutsideFault::OutOfMemory) => Reported::OutOfMemory,
@@ -111,8 +134,8 @@ fn tell<R: Sink>(report: &mut R, stop: Stop) -> Reported
 }
 
 // The status of a stop whose report went so.
-fn status(stop: Stop, reported: Reported) -> u8
-    ensures { result ≡ status stop reported }
+fn status(stop: &Stop, reported: Reported) -> u8
+    ensures { result ≡ status stop.now reported }
 {
     match reported {
         Reported::Whole => stop_status(stop),
@@ -121,15 +144,17 @@ fn status(stop: Stop, reported: Reported) -> u8
     }
 }
 
-fn stop_status(stop: Stop) -> u8
-    ensures { result ≡ stop_status stop }
+fn stop_status(stop: &Stop) -> u8
+    ensures { result ≡ stop_status stop.now }
 {
     match stop {
         Stop::Done => 0,
+        Stop::Uncaught { .. } => 1,
         Stop::Usage => 2,
         Stop::Refused(_) => 3,
         Stop::StepsSpent(_) => 4,
         Stop::OutOfMemory => 6,
         Stop::ReadFault | Stop::WriteFault => 7,
+        Stop::Full(_) => 8,
     }
 }

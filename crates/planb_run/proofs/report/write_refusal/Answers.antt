@@ -15,3 +15,9 @@ returns-in-Syntax g c =
     let line = c.as_bytes-line.ensures.value ∙ c.format-in-Syntax.ensures.text in
     let column = c.as_bytes-column.ensures.value ∙ c.format-in-Syntax-2.ensures.text in
     rw (c.in-Syntax.is, ← line, ← column, place-text c.as_bytes-line.result.now c.as_bytes-column.result.now) c.put_parts-in-Syntax.ensures
+
+pub returns-in-TooDeep : goal.returns-in-TooDeep
+returns-in-TooDeep g c = rw c.in-TooDeep.is c.put_all-in-TooDeep.ensures
+
+pub returns-in-Fault : goal.returns-in-Fault
+returns-in-Fault g c = rw c.in-Fault.is c.write_fault.ensures

@@ -80,6 +80,7 @@ module _ (m n : Point) (args : List (List ℕ)) (before after : SinkState) (at :
         journal = d.journal (run m.setting.program args) [] [] at;
         written = put.3.ok ∙ ap (with_bytes before.written) (sym put.1);
         fuel = d.fuel (run m.setting.program args) [] [] at;
+        same = put.2 ∙ sym put.1;
       })
 
   ends_if : (o : Outcome) (stop : Option RunStop) → Ends m (focus.Answer Normal) before n after o → TellsEnd (ending_of n.now o) stop → EndsIf m.setting.program args m.setting.budget before after n.taken stop
@@ -167,13 +168,17 @@ no_main p args budget sink now marks none = record {
 
 full_ends : (p : Program) (args : List (List ℕ)) (budget : ℕ) (sink : SinkState) (main : Method) (what : What) → IsMain p main → ((p : Program) (w : World) → w.now ≡ arguments_heap args → run_main p args w ≡ gives (outcome.Full what) w) → EndsWhole p args budget (Ending.Full what) sink sink 0
 full_ends p args budget sink main what is full =
-    let e : run p args budget [] ≡ gives (outcome.Full what) (first_world main args budget []) = ap (λ found. option_map_or (λ (main : Method). run_main p args (first_world main args budget [])) found (gives outcome.Stuck (record { this = None; locals = []; now = []; live = 0; fuel = budget; journal = [] }))) is ∙ full p (first_world main args budget []) refl in
+    let e = runs budget in
     record {
       ending_is = rw e refl;
       journal = rw e refl;
       written = rw e (with_none sink.written);
       fuel = rw e (omega arith);
+      same = rw (e, runs 0) refl;
     }
+  where
+    runs : (steps : ℕ) → run p args steps [] ≡ gives (outcome.Full what) (first_world main args steps [])
+    runs steps = ap (λ found. option_map_or (λ (main : Method). run_main p args (first_world main args steps [])) found (gives outcome.Stuck (record { this = None; locals = []; now = []; live = 0; fuel = steps; journal = [] }))) is ∙ full p (first_world main args steps []) refl
 
 -- what is refused before the first step
 pub refused : (p : Program) (args : List (List ℕ)) (budget : ℕ) (sink : SinkState) (now : Heap) (marks : List Heap) (main : Method) (stop : RunStop) → IsMain p main → IsRefused args stop → EndsRun p args budget sink sink now marks 0 (Some stop)

@@ -122,6 +122,8 @@ pub record EndsWhole (p : Program) (args : List (List ℕ)) (budget : ℕ) (end 
   pub journal : (run p args budget []).world.journal ≡ []
   pub written : now.written ≡ with_bytes before.written (run p args budget []).out
   pub fuel : (run p args budget []).world.fuel + taken ≡ budget
+  -- a run with just the steps that were taken prints the same
+  pub same : (run p args taken []).out ≡ (run p args budget []).out
 
 -- how the machine ended: as the run did, or early, with a prefix of what the run with the steps taken prints
 abbrev pub EndsBy : Program → List (List ℕ) → ℕ → SinkState → SinkState → ℕ → Option Ending → Type 0

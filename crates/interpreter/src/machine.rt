@@ -93,7 +93,7 @@ impl<S: Store + Drop> Machine<S> {
         self.steps_taken
     }
 
-    /// Whether the sink refused a call in the run, so that it isn't to be used any more.
+    /// Whether a call of the sink failed in the run, so that the sink should not be used any more.
     pub fn sink_refused(&self) -> bool
         ensures { result ≡ self.now.sink_refused }
     {

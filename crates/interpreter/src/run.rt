@@ -27,6 +27,7 @@ pub struct Ended<S> {
     pub store: S,
     pub taken: u64,
     pub stop: Option<RunStop>,
+    /// Whether the sink refused a call.
     pub sink_refused: bool,
 }
 

@@ -1,6 +1,6 @@
 -- What a run of the machine and the flush behind it come to.
-use Rattle.std.proofs.Common.{◌≡◌, ◌⊎◌, inl, inr, ℕ, ◌≤◌, List, [], ◌++◌, Option, Some, None, MatchOption, refl, sym, ◌∙◌, ap, subst, append-nil, arith}
-use Rattle.pb_io.specs.Sink.{SinkState, AppendsPrefix, IsFlushed}
+use Rattle.std.proofs.Common.{◌≡◌, ◌⊎◌, inl, inr, ℕ, ◌≤◌, List, [], Option, Some, None, MatchOption, refl, sym, ◌∙◌, ap, subst, append-nil, arith}
+use Rattle.pb_io.specs.Sink.{SinkState, IsFlushed}
 use Rattle.pb_io.proofs.Puts.{with_bytes-nil, Rose-earlier, Rose-later}
 use Rattle.core_tree.specs.declared.program.Program.{Program}
 use Rattle.heap_arena.specs.Heap.{Heap}

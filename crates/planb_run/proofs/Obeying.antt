@@ -1,7 +1,6 @@
 -- Each way in which the stages end obeys the headline.
 use Rattle.std.proofs.Common.{◌≡◌, ◌⊎◌, inl, inr, ℕ, ◌<◌, ◌≤◌, true, List, [], length, Option, Some, None, refl, sym, ◌∙◌, ap, subst, arith}
 use Rattle.std.specs.Prelude.{IfSome}
-use Rattle.pb_io.specs.Faults.{Rose}
 use Rattle.pb_io.specs.Sink.{SinkState}
 use Rattle.pb_io.specs.Files.{FilesState}
 use Rattle.java_tokens.specs.Faults.{HasFault}
@@ -15,7 +14,7 @@ use Rattle.evaluation.specs.Run.{run, ending, Ending}
 use Rattle.planb_run.specs.declared.ending.Stop.{Stop}
 use Rattle.planb_run.specs.declared.ending.Stop.TheVariants as stop
 use Rattle.planb_run.specs.Command.{Command, command}
-use Rattle.planb_run.specs.Headline.{Outside, IsRunStop, IsRefusal, IsEarly, IsRun, IsPartOfRun, HasProgram, IsRefusedFor, IsUnaccepted, StartsAtMost, PrintsNothing, RunsWhole, RunsInPart, arguments_of, stop_of}
+use Rattle.planb_run.specs.Headline.{Outside, IsRunStop, IsRefusal, IsEarly, IsRun, IsPartOfRun, HasProgram, IsRefusedFor, StartsAtMost, PrintsNothing, RunsWhole, RunsInPart, arguments_of, stop_of}
 use Rattle.planb_run.specs.Stages.{Obeys, RefusesFile, Executes, CutsShort}
 use Rattle.planb_run.proofs.Sources.{accepted_faultless, refused_lexical, refused_long, refused_unaccepted}
 

@@ -1,8 +1,7 @@
 -- Worked rows of the report, computed.
-use Rattle.std.proofs.Common.{◌≡◌, List, [], ◌∷◌, ◌++◌, Some, None, refl}
+use Rattle.std.proofs.Common.{◌≡◌, [], ◌∷◌, ◌++◌, Some, None, refl}
 use Rattle.std.specs.Prelude.{codes}
 use Rattle.core_tree.specs.declared.what.What.TheVariants as what
-use Rattle.core_tree.specs.declared.program.Class.{Class}
 use Rattle.core_tree.specs.declared.program.Program.{Program}
 use Rattle.java_source.specs.declared.refusal.SourceRefusal.TheVariants as refusal
 use Rattle.planb_run.specs.declared.ending.Stop.TheVariants as stop

@@ -1,5 +1,5 @@
 -- No source is both accepted and refused, and what refuses a source is one.
-use Rattle.std.proofs.Common.{◌≡◌, ◌≢◌, inl, inr, ℕ, suc, ◌<◌, ◌≤◌, List, [], length, replicate, refl, sym, ◌∙◌, ap, subst, arith}
+use Rattle.std.proofs.Common.{◌≡◌, ◌≢◌, inl, inr, ℕ, suc, ◌<◌, ◌≤◌, List, length, replicate, refl, sym, ◌∙◌, ap, subst, arith}
 use Rattle.std.proofs.lemmas.List.{length-replicate}
 use Rattle.core_tree.specs.declared.program.Program.{Program}
 use Rattle.java_tokens.specs.declared.token.Token.{Token}
@@ -10,7 +10,6 @@ use Rattle.java_tokens.specs.Faults.{HasFault}
 use Rattle.java_tokens.proofs.OneReading.{one_list, one_fault, no_list_with_fault}
 use Rattle.java_syntax.specs.declared.fault.Fault.{Fault}
 use Rattle.java_syntax.specs.declared.class.FileTree.{FileTree}
-use Rattle.java_syntax.specs.Height.{file_height}
 use Rattle.java_syntax.specs.Spells.{Spells}
 use Rattle.java_exprs.specs.Checks.{Has}
 use Rattle.java_source.specs.declared.refusal.SourceRefusal.{SourceRefusal}

@@ -53,6 +53,7 @@ class Body:
         self.scope = []
         self.counters = []
         self.loops = 0
+        self.creations = 0  # around the place where the next expression is written
         self.nesting = 0
         self.left = 2 if calls else 0  # calls and new objects that this body may still have
 
@@ -134,8 +135,8 @@ class Body:
             return f"new int[{self.random.randint(2, 4)}]"
         if type_ == "Main[]":
             return f"((Main[]) new {self.random.choice(CLASSES)}[{self.random.randint(2, 4)}])"
-        if self.random.random() < 0.6 and self.calls:
-            return self.new(self.random.choice(CLASSES if type_ == "Main" else CLASSES[1:]), 0)
+        if self.random.random() < 0.6 and self.calls and self.creations < 2:
+            return self.new(self.random.choice(CLASSES if type_ == "Main" else CLASSES[1:]))
         return f"(({type_}) null)"
 
     def composed(self, type_, deep):
@@ -197,8 +198,11 @@ class Body:
     def arguments(self, types, deep):
         return ", ".join(self.value(type_, deep) for type_ in types)
 
-    def new(self, class_, deep):
-        return f"new {class_}({self.arguments(self.program.makers[class_], deep)})"
+    def new(self, class_):
+        self.creations += 1
+        made = f"new {class_}({self.arguments(self.program.makers[class_], 0)})"
+        self.creations -= 1
+        return made
 
     def call(self, type_, deep):
         """A call with this result, or None where no method has it."""

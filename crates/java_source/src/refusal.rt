@@ -20,7 +20,7 @@ pub enum SourceRefusal {
     Lexical(TokenKindError, u32),
     /// No tree spells its tokens. The place is that of the token at which the parser stopped, or of the last one.
     Syntax { line: u32, column: u32 },
-    /// Only trees that are more than 200 nodes high spell its tokens.
+    /// No tree that is at most 200 nodes high spells its tokens, of which there are 200 or more.
     TooDeep,
     /// It breaks this rule at this place.
     Fault { rule: u8, line: u32, column: u32 },

@@ -1,10 +1,10 @@
 -- What a run of the machine and the flush behind it come to.
-use Rattle.std.proofs.Common.{◌≡◌, ◌⊎◌, inl, inr, ℕ, ◌≤◌, List, [], Option, Some, None, MatchOption, refl, sym, ◌∙◌, ap, subst, append-nil, arith}
+use Rattle.std.proofs.Common.{◌≡◌, ◌⊎◌, inl, inr, ℕ, ◌+◌, ◌≤◌, List, [], Option, Some, None, MatchOption, refl, sym, ◌∙◌, ap, subst, append-nil, arith}
 use Rattle.pb_io.specs.Sink.{SinkState, IsFlushed}
 use Rattle.pb_io.proofs.Puts.{with_bytes-nil, Rose-earlier, Rose-later}
 use Rattle.core_tree.specs.declared.program.Program.{Program}
 use Rattle.heap_arena.specs.Heap.{Heap}
-use Rattle.evaluation.specs.Run.{run, Ending}
+use Rattle.evaluation.specs.Run.{run, ending, Ending}
 use Rattle.interpreter.specs.declared.stop.RunStop.{RunStop}
 use Rattle.interpreter.specs.declared.stop.RunStop.TheVariants as how
 use Rattle.interpreter.specs.Machine.{EndsRun, EndsWhole}
@@ -31,7 +31,22 @@ cut_later before mid now (stop.StepsSpent budget) later cut = cut
 cut_later before mid now (stop.Full what) later cut = cut
 cut_later before mid now stop.ReadFault later cut = cut
 
+-- a run that stops with its steps spent names its budget
+spent_stop : (budget n : ℕ) (end : Ending) → stop_of end budget ≡ Some (stop.StepsSpent n) → (end ≡ Ending.StepsSpent) × (budget ≡ n)
+spent_stop budget n Ending.Done is = cc
+spent_stop budget n (Ending.Uncaught number message) is = cc
+spent_stop budget n Ending.StepsSpent is = (refl, cc)
+spent_stop budget n (Ending.Full what) is = cc
+spent_stop budget n Ending.Stuck is = cc
+
 module _ (p : Program) (arguments : List (List ℕ)) (budget : ℕ) where
+  -- a run that stops so takes all of its steps
+  all_taken : (taken n : ℕ) (ended : Stop) → (run p arguments budget []).world.fuel + taken ≡ budget → stop_of (ending (run p arguments budget [])) budget ≡ Some ended → ended ≡ stop.StepsSpent n → taken ≡ n
+  all_taken taken n ended fuel is spent =
+      let named = spent_stop budget n (ending (run p arguments budget [])) (is ∙ ap Some spent) in
+      let none = none_left p arguments budget [] named.0 in
+      omega (arith, fuel, none, named.1)
+
   -- there was no memory for the store
   pub not_begun : (sink : SinkState) → Executes p arguments budget sink sink stop.OutOfMemory 0
   not_begun sink = inr (
@@ -60,12 +75,15 @@ module _ (p : Program) (arguments : List (List ℕ)) (budget : ℕ) where
       whole_flushed : (end : Ending) (ended : Stop) → stop_of end budget ≡ Some ended → EndsWhole p arguments budget end before mid taken
           → taken ≤ budget → before.faults ≤ mid.faults → now.written ≡ mid.written
           → ((flushed ≡ ended) × IsFlushed now) ⊎ CutsShort mid now flushed → Executes p arguments budget before now flushed taken
-      whole_flushed end ended is whole within later written (inl (same, all)) = inl (record {
-        stop_is = ap (λ e. stop_of e budget) whole.ending_is ∙ is ∙ ap Some (sym same);
-        fuel = whole.fuel;
-        written = written ∙ whole.written;
-        flushed = all;
-      })
+      whole_flushed end ended is whole within later written (inl (same, all)) =
+          let stop_is : stop_of (ending (run p arguments budget [])) budget ≡ Some flushed = ap (λ e. stop_of e budget) whole.ending_is ∙ is ∙ ap Some (sym same) in
+          inl (record {
+            stop_is = stop_is;
+            fuel = whole.fuel;
+            written = written ∙ whole.written;
+            flushed = all;
+            spent = λ n. all_taken taken n flushed whole.fuel stop_is;
+          })
       whole_flushed end ended is whole within later written (inr cut) = inr (
         record {
           within = within;

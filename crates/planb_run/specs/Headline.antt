@@ -71,6 +71,8 @@ module _ (program : Program) (arguments : List (List ℕ)) (budget : ℕ) (befor
     pub fuel : whole.world.fuel + steps ≡ budget
     pub written : now.written ≡ with_bytes before.written whole.out
     pub flushed : IsFlushed now
+    -- where the steps were spent, all of them were taken
+    pub spent : (n : ℕ) → ended ≡ stop.StepsSpent n → steps ≡ n
 
   -- a run that was cut short: a prefix was appended of what a run with just the steps that were taken prints
   pub record IsPartOfRun (steps : ℕ) : Type 0 where

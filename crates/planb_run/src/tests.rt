@@ -169,6 +169,7 @@ fn compare(rt: &impl Abort, alloc: Global, rows: &[Row]) -> Result<(), AllocErro
 fn runs_programs(rt: HostRuntime) -> Result<(), Fail> {
     let sum = "System.out.println(1 + 2);";
     let wrapped = "System.out.println(2147483647 + 1);";
+    let edges = "System.out.println(2147483647 + 1); System.out.println(-2147483648 / -1); System.out.println(7 / -2); System.out.println(-7 % 2); System.out.println(1 << 33);";
     let local = "int x = 2; System.out.println(x - 5);";
     let argument = "System.out.println(args.length + args[0]);";
     let rows = [
@@ -179,6 +180,7 @@ fn runs_programs(rt: HostRuntime) -> Result<(), Fail> {
         done(FILE, local, "-3\n", Some(6)),
         spent(&["planb", "--steps", "5", "F"], local, 5, "steps spent 5\n"),
         done(FILE, wrapped, "-2147483648\n", Some(4)),
+        done(FILE, edges, "-2147483648\n-2147483648\n-3\n-1\n2\n", None),
         done(FILE, "", "", Some(0)),
         done(&["planb", "F", "ab", "c"], argument, "2ab\n", None),
         done(FILE, "System.out.println(\"é😀\");", "é😀\n", None),
@@ -193,7 +195,10 @@ fn tells_how_programs_end(rt: HostRuntime) -> Result<(), Fail> {
     let doubling = "String s = \"0123456789\"; while (true) { s = s + s; }";
     let escapes = "throw new RuntimeException(\"a\\\\b\\nc\\rd\");";
     let message = "throw new RuntimeException(\"a: \" + 3 + true + null);";
+    let negative = "try { int[] a = new int[-1]; } catch (NegativeArraySizeException e) { System.out.println(\"n\"); }";
     let rows = [
+        done(FILE, "int[] a = new int[16777214];", "", None),
+        done(FILE, negative, "n\n", None),
         ended(
             "System.out.println(1 / 0);",
             1,
@@ -201,6 +206,11 @@ fn tells_how_programs_end(rt: HostRuntime) -> Result<(), Fail> {
         ),
         ended(message, 1, "uncaught RuntimeException: a: 3truenull\n"),
         ended(escapes, 1, "uncaught RuntimeException: a\\\\b\\nc\\rd\n"),
+        ended(
+            "Object[] a = new Main[1]; a[0] = new Object();",
+            1,
+            "uncaught ArrayStoreException\n",
+        ),
         ended("int[] a = new int[16777215];", 8, "full cells\n"),
         ended(doubling, 8, "full text\n"),
         spent(
@@ -211,6 +221,95 @@ fn tells_how_programs_end(rt: HostRuntime) -> Result<(), Fail> {
         ),
     ];
     Ok(compare(&rt, rt.alloc(), &rows)?)
+}
+
+// The source of a class `Main` with this method, and this body of main.
+fn method_and_main(alloc: Global, method: &str, body: &str) -> Result<String, AllocError> {
+    format!(in alloc; "class Main {{ {method} public static void main(String[] args) {{ {body} }} }}")
+}
+
+// A method, the body of main, and what the two give.
+#[derive(Clone, Copy)]
+struct Called<'a> {
+    method: &'a str,
+    body: &'a str,
+    output: &'a str,
+    status: u8,
+    report: &'a str,
+}
+
+const COUNT_DOWN: &str = "static int f(int n) { if (n == 0) { return 0; } return f(n - 1); }";
+
+// The deepest recursion and one call more; jumps through `finally`; operands before null; an exception that isn't declared.
+const CALLED: [Called; 6] = [
+    Called {
+        method: COUNT_DOWN,
+        body: "System.out.println(f(65534));",
+        output: "0\n",
+        status: 0,
+        report: "",
+    },
+    Called {
+        method: COUNT_DOWN,
+        body: "System.out.println(f(65535));",
+        output: "",
+        status: 1,
+        report: "uncaught StackOverflowError\n",
+    },
+    Called {
+        method: "static void f() { try { throw new RuntimeException(); } finally { return; } }",
+        body: "f(); System.out.println(\"ok\");",
+        output: "ok\n",
+        status: 0,
+        report: "",
+    },
+    Called {
+        method: "static int f() { try { return 1; } finally { System.out.println(\"f\"); } }",
+        body: "System.out.println(f());",
+        output: "f\n1\n",
+        status: 0,
+        report: "",
+    },
+    Called {
+        method: "static int p(String s) { System.out.println(s); return 0; }",
+        body: "int[] a = null; a[p(\"f\")] = p(\"g\");",
+        output: "f\ng\n",
+        status: 1,
+        report: "uncaught NullPointerException\n",
+    },
+    Called {
+        method: "static void f() { throw new Exception(); }",
+        body: "f();",
+        output: "",
+        status: 3,
+        report: "refused rule 23 at 1:32\n",
+    },
+];
+
+#[test]
+fn calls_methods(rt: HostRuntime) -> Result<(), Fail> {
+    let alloc = rt.alloc();
+    for row in CALLED {
+        let source = method_and_main(alloc, row.method, row.body)?;
+        let call = run_planb(alloc, FILE, source.as_bytes(), 4096, Failing::default())?;
+        assert_eq!(rt; call.ending.status, row.status, "{source}");
+        assert_eq!(rt; call.out.written(), row.output.as_bytes(), "{source}");
+        assert_eq!(rt; call.report.written(), row.report.as_bytes(), "{source}");
+    }
+    Ok(())
+}
+
+// The constructor of a superclass calls the method of the object's class, before that class's own fields are set.
+const SHOWN: &str = "class A { int x = 1; A() { show(); } void show() { System.out.println(10 + x); } }
+class B extends A { int y = 2; void show() { System.out.println(20 + y); } }
+class Main { public static void main(String[] args) { new B(); } }";
+
+#[test]
+fn calls_the_method_of_the_class(rt: HostRuntime) -> Result<(), Fail> {
+    let call = run_planb(rt.alloc(), FILE, SHOWN.as_bytes(), 4096, Failing::default())?;
+    assert_eq!(rt; call.ending.status, 0);
+    assert_eq!(rt; call.out.written(), b"20\n".as_slice());
+    Ok(())
 }
 
 #[test]

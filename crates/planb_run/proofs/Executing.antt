@@ -8,6 +8,7 @@ use Rattle.evaluation.specs.Run.{run, ending, Ending}
 use Rattle.interpreter.specs.declared.stop.RunStop.{RunStop}
 use Rattle.interpreter.specs.declared.stop.RunStop.TheVariants as how
 use Rattle.interpreter.specs.Machine.{EndsRun, EndsWhole}
+use Rattle.steps_law.proofs.Runs.{spent_leaves_none}
 use Rattle.planb_run.specs.declared.ending.Stop.{Stop}
 use Rattle.planb_run.specs.declared.ending.Stop.TheVariants as stop
 use Rattle.planb_run.specs.Causes.{run_stop}
@@ -44,7 +45,7 @@ module _ (p : Program) (arguments : List (List ℕ)) (budget : ℕ) where
   all_taken : (taken n : ℕ) (ended : Stop) → (run p arguments budget []).world.fuel + taken ≡ budget → stop_of (ending (run p arguments budget [])) budget ≡ Some ended → ended ≡ stop.StepsSpent n → taken ≡ n
   all_taken taken n ended fuel is spent =
       let named = spent_stop budget n (ending (run p arguments budget [])) (is ∙ ap Some spent) in
-      let none = none_left p arguments budget [] named.0 in
+      let none = spent_leaves_none p arguments budget [] named.0 in
       omega (arith, fuel, none, named.1)
 
   -- there was no memory for the store

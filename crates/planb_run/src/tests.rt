@@ -169,7 +169,8 @@ fn compare(rt: &impl Abort, alloc: Global, rows: &[Row]) -> Result<(), AllocErro
 fn runs_programs(rt: HostRuntime) -> Result<(), Fail> {
     let sum = "System.out.println(1 + 2);";
     let wrapped = "System.out.println(2147483647 + 1);";
-    let edges = "System.out.println(2147483647 + 1); System.out.println(-2147483648 / -1); System.out.println(7 / -2); System.out.println(-7 % 2); System.out.println(1 << 33);";
+    let edges =
+        "System.out.println(2147483647 + 1); System.out.println(-2147483648 / -1); System.out.println(7 / -2); System.out.println(-7 % 2); System.out.println(1 << 33);";
     let local = "int x = 2; System.out.println(x - 5);";
     let argument = "System.out.println(args.length + args[0]);";
     let rows = [
@@ -195,7 +196,8 @@ fn tells_how_programs_end(rt: HostRuntime) -> Result<(), Fail> {
     let doubling = "String s = \"0123456789\"; while (true) { s = s + s; }";
     let escapes = "throw new RuntimeException(\"a\\\\b\\nc\\rd\");";
     let message = "throw new RuntimeException(\"a: \" + 3 + true + null);";
-    let negative = "try { int[] a = new int[-1]; } catch (NegativeArraySizeException e) { System.out.println(\"n\"); }";
+    let negative =
+        "try { int[] a = new int[-1]; } catch (NegativeArraySizeException e) { System.out.println(\"n\"); }";
     let rows = [
         done(FILE, "int[] a = new int[16777214];", "", None),
         done(FILE, negative, "n\n", None),
@@ -225,7 +227,9 @@ fn tells_how_programs_end(rt: HostRuntime) -> Result<(), Fail> {
 
 // The source of a class `Main` with this method, and this body of main.
 fn method_and_main(alloc: Global, method: &str, body: &str) -> Result<String, AllocError> {
-    format!(in alloc; "class Main {{ {method} public static void main(String[] args) {{ {body} }} }}")
+    format!(in alloc;
+        "class Main {{ {method} public static void main(String[] args) {{ {body} }} }}"
+    )
 }
 
 // A method, the body of main, and what the two give.
@@ -300,7 +304,8 @@ fn calls_methods(rt: HostRuntime) -> Result<(), Fail> {
 }
 
 // The constructor of a superclass calls the method of the object's class, before that class's own fields are set.
-const SHOWN: &str = "class A { int x = 1; A() { show(); } void show() { System.out.println(10 + x); } }
+const SHOWN: &str =
+    "class A { int x = 1; A() { show(); } void show() { System.out.println(10 + x); } }
 class B extends A { int y = 2; void show() { System.out.println(20 + y); } }
 class Main { public static void main(String[] args) { new B(); } }";
 

@@ -8,7 +8,6 @@ use Rattle.evaluation.specs.Run.{run, ending, Ending}
 use Rattle.interpreter.specs.declared.stop.RunStop.{RunStop}
 use Rattle.interpreter.specs.declared.stop.RunStop.TheVariants as how
 use Rattle.interpreter.specs.Machine.{EndsRun, EndsWhole}
-use Rattle.steps_law.proofs.Runs.{spent_leaves_none}
 use Rattle.planb_run.specs.declared.ending.Stop.{Stop}
 use Rattle.planb_run.specs.declared.ending.Stop.TheVariants as stop
 use Rattle.planb_run.specs.Causes.{run_stop}
@@ -41,11 +40,15 @@ spent_stop budget n (Ending.Full what) is = cc
 spent_stop budget n Ending.Stuck is = cc
 
 module _ (p : Program) (arguments : List (List ℕ)) (budget : ℕ) where
+  -- the law on spent steps, of this run
+  abbrev pub LeavesNone : Type 0
+  LeavesNone = ending (run p arguments budget []) ≡ Ending.StepsSpent → (run p arguments budget []).world.fuel ≡ 0
+
   -- a run that stops so takes all of its steps
-  all_taken : (taken n : ℕ) (ended : Stop) → (run p arguments budget []).world.fuel + taken ≡ budget → stop_of (ending (run p arguments budget [])) budget ≡ Some ended → ended ≡ stop.StepsSpent n → taken ≡ n
-  all_taken taken n ended fuel is spent =
+  all_taken : LeavesNone → (taken n : ℕ) (ended : Stop) → (run p arguments budget []).world.fuel + taken ≡ budget → stop_of (ending (run p arguments budget [])) budget ≡ Some ended → ended ≡ stop.StepsSpent n → taken ≡ n
+  all_taken leaves taken n ended fuel is spent =
       let named = spent_stop budget n (ending (run p arguments budget [])) (is ∙ ap Some spent) in
-      let none = spent_leaves_none p arguments budget [] named.0 in
+      let none = leaves named.0 in
       omega (arith, fuel, none, named.1)
 
   -- there was no memory for the store
@@ -71,7 +74,7 @@ module _ (p : Program) (arguments : List (List ℕ)) (budget : ℕ) where
     kept how.OutOfMemory ends may = inr (record { within = ends.within; part = ends.ends }, tt)
     kept how.WriteFault ends may = inr (record { within = ends.within; part = ends.ends }, ends.cause refl)
 
-    module _ (now : SinkState) (flushed : Stop) where
+    module _ (leaves : LeavesNone) (now : SinkState) (flushed : Stop) where
       -- the run came to its end
       whole_flushed : (end : Ending) (ended : Stop) → stop_of end budget ≡ Some ended → EndsWhole p arguments budget end before mid taken
           → taken ≤ budget → before.faults ≤ mid.faults → now.written ≡ mid.written
@@ -83,7 +86,7 @@ module _ (p : Program) (arguments : List (List ℕ)) (budget : ℕ) where
             fuel = whole.fuel;
             written = written ∙ whole.written;
             flushed = all;
-            spent = λ n. all_taken taken n flushed whole.fuel stop_is;
+            spent = λ n. all_taken leaves taken n flushed whole.fuel stop_is;
           })
       whole_flushed end ended is whole within later written (inr cut) = inr (
         record {

@@ -10,6 +10,7 @@ use heap_arena::CopyStore;
 use interpreter::{Machine, RunStop};
 use pb_io::{OutsideFault, Sink};
 use std::alloc::Global;
+use steps_law::spent_runs_leave_none;
 
 /// Why a run stopped, and how many steps it took.
 #[derive(Drop)]
@@ -44,6 +45,7 @@ pub fn execute<O: Sink>(
     if is_refused(&stop, machine.sink_refused()) {
         return Executed { stop, steps };
     }
+    spent_runs_leave_none();
     Executed {
         stop: flushed(out, stop),
         steps,

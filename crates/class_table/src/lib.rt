@@ -24,8 +24,6 @@ mod names;
 mod overriding;
 mod row;
 mod rows;
-#[cfg(test)]
-mod tests;
 
 pub use check::table;
 pub use row::{ClassRow, ClassTable, FieldRow, Fields, MakerRow, MethodRow, Shared};

@@ -21,8 +21,6 @@ mod numbers;
 mod scope;
 mod selectors;
 mod symbol;
-#[cfg(test)]
-mod tests;
 mod types;
 
 pub use classes::symbols;

@@ -22,15 +22,11 @@ mod nodes;
 mod places;
 mod prefix;
 mod refusal;
-#[cfg(test)]
-mod rows;
 mod signs;
 mod simple;
 mod statement;
 mod statement_nodes;
 mod statements;
-#[cfg(test)]
-mod tests;
 mod tokens;
 mod types;
 

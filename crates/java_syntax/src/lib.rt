@@ -17,8 +17,6 @@ mod name;
 mod operator;
 mod place;
 mod statement;
-#[cfg(test)]
-mod tests;
 
 pub use class::{
     ClassTree, FieldTree, FileTree, MakerTree, Member, MethodTree, Modifier, Mods, ParamTree,

@@ -23,8 +23,6 @@ mod place;
 mod reader;
 mod scan;
 mod string;
-#[cfg(test)]
-mod tests;
 mod text;
 mod token;
 

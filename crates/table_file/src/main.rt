@@ -2,11 +2,6 @@
 //! fault of its tokens, `syntax at L:C`, `too deep`, or `out of memory`. `bench/table` measures it.
 #![tactic(auto)]
 
-#[cfg(test)]
-mod sources;
-#[cfg(test)]
-mod tests;
-
 use class_table::table;
 use java_parse::{ParseError, parse};
 use java_syntax::{CheckError, FileTree};

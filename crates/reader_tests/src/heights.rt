@@ -1,24 +1,18 @@
+//! The height of a tree. No text gives a tree that is higher than 200 nodes, so these are built by hand.
+
 ghost use Rattle.std.specs.Prelude.{◌≡◌, ◌+◌, ◌<◌, IfOk};
 ghost use Rattle.java_syntax.specs.Height.{expr_height, stmt_height, member_height, file_height};
 
-use crate::{
-    BaseType, ClassTree, Expr, FileTree, Ident, LocalTree, Member, MethodTree, Mods, Stmt,
-    TokenPlace, TypeTree,
+use crate::reading::name;
+use java_syntax::{
+    BaseType, ClassTree, Expr, FileTree, Ident, LocalTree, Member, MethodTree, Mods, Stmt, TypeTree,
 };
-use java_tokens::{Name, Token, TokenKind};
 use sqlite_items::{Boxed, Items};
 use std::alloc::{AllocError, Global};
 use std::test::Fail;
 
-fn ident(alloc: Global, at: u32) -> Ident {
-    Ident {
-        at,
-        name: Name::new(Vec::new(alloc)),
-    }
-}
-
-/// `(..(1)..)` with so many pairs of parentheses.
-#[tactic(auto, using(crate::proofs::ExprHeights::heights))]
+/// `(..(1)..)` with that many pairs of parentheses.
+#[tactic(auto, using(java_syntax::proofs::ExprHeights::heights))]
 fn in_parentheses(alloc: Global, pairs: u32) -> Result<Expr, AllocError>
     requires small { pairs < 1000 }
     ensures { IfOk result (λ e. expr_height e ≡ pairs + 1) }
@@ -30,22 +24,29 @@ fn in_parentheses(alloc: Global, pairs: u32) -> Result<Expr, AllocError>
     Ok(expr)
 }
 
-/// `int x = value;`
-#[tactic(auto, using(crate::proofs::StmtHeights::heights))]
-fn local(alloc: Global, value: Expr) -> Stmt
-    ensures { stmt_height result ≡ expr_height value + 1 }
+fn ident(alloc: Global) -> Result<Ident, AllocError> {
+    Ok(Ident {
+        at: 0,
+        name: name(alloc, "a")?,
+    })
+}
+
+/// `int a = value;`
+#[tactic(auto, using(java_syntax::proofs::StmtHeights::heights))]
+fn local(alloc: Global, value: Expr) -> Result<Stmt, AllocError>
+    ensures { IfOk result (λ s. stmt_height s ≡ expr_height value + 1) }
 {
-    Stmt::Local(LocalTree {
+    Ok(Stmt::Local(LocalTree {
         ty: TypeTree {
             base: BaseType::Int,
             dimensions: 0,
         },
-        name: ident(alloc, 0),
+        name: ident(alloc)?,
         value: Some(value),
-    })
+    }))
 }
 
-/// `void m() { statement }`
+/// `void a() { statement }`
 fn method(alloc: Global, statement: Stmt) -> Result<Member, AllocError>
     ensures { IfOk result (λ m. member_height m ≡ stmt_height statement + 1) }
 {
@@ -54,20 +55,20 @@ fn method(alloc: Global, statement: Stmt) -> Result<Member, AllocError>
             words: Items::new(alloc),
         },
         answer: None,
-        name: ident(alloc, 0),
+        name: ident(alloc)?,
         params: Items::new(alloc),
         throws: Items::new(alloc),
         body: Items::from_vec(vec![in alloc; statement]?),
     }))
 }
 
-/// `class A { member }`
+/// `class a { member }`
 fn file(alloc: Global, member: Member) -> Result<FileTree, AllocError>
     ensures { IfOk result (λ f. file_height f ≡ member_height member + 1) }
 {
     let class = ClassTree {
         is_public: false,
-        name: ident(alloc, 0),
+        name: ident(alloc)?,
         parent: None,
         members: Items::from_vec(vec![in alloc; member]?),
     };
@@ -88,23 +89,9 @@ fn heights_of_files(rt: HostRuntime) -> Result<(), Fail> {
     assert_eq!(rt; none.height(), 0);
     assert_eq!(rt; file(alloc, Member::Empty)?.height(), 2);
     for (pairs, height) in [(0, 4), (196, 200), (197, 201)] {
-        let value = in_parentheses(alloc, pairs)?;
-        let member = method(alloc, local(alloc, value))?;
-        assert_eq!(rt; file(alloc, member)?.height(), height);
+        let statement = local(alloc, in_parentheses(alloc, pairs)?)?;
+        let member = method(alloc, statement)?;
+        assert_eq!(rt; file(alloc, member)?.height(), height, "{pairs} pairs");
     }
-    Ok(())
-}
-
-#[test]
-fn place_of_a_token(rt: HostRuntime) -> Result<(), Fail> {
-    let token = Token {
-        kind: TokenKind::End,
-        start: 30,
-        end: 30,
-        line: 4,
-        column: 9,
-    };
-    let want = TokenPlace { line: 4, column: 9 };
-    assert_eq!(rt; TokenPlace::of(&token), want);
     Ok(())
 }

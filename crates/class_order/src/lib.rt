@@ -8,8 +8,6 @@
 
 mod assignable;
 mod subclass;
-#[cfg(test)]
-mod tests;
 
 pub use assignable::{is_assignable, kind_fits};
 pub use subclass::is_subclass;

@@ -14,8 +14,6 @@ mod expr;
 mod operator;
 mod program;
 mod stmt;
-#[cfg(test)]
-mod tests;
 mod text;
 mod ty;
 mod what;

@@ -20,8 +20,6 @@ mod object;
 mod object_list;
 mod stack;
 mod store;
-#[cfg(test)]
-mod tests;
 
 pub use call::Call;
 pub use cell::Cell;

@@ -13,8 +13,6 @@ mod fitting;
 mod look;
 mod making;
 mod position;
-#[cfg(test)]
-mod tests;
 
 pub use cells::{cell, write};
 pub use fitting::object_fits;

@@ -12,8 +12,6 @@ mod bitwise;
 mod division;
 mod law;
 mod shift;
-#[cfg(test)]
-mod tests;
 mod text;
 
 pub use arithmetic::{add, mul, neg, sub};

@@ -55,31 +55,3 @@ impl<R: rt::Files + Drop> Files for HostFiles<R> {
         counted(&mut self.faults, outcome)
     }
 }
-
-#[cfg(test)]
-mod tests {
-    use super::*;
-    use crate::{ReadError, read_file};
-    use std::test::Fail;
-    use std::{env, process};
-
-    #[test]
-    fn reads_a_file_of_the_system(rt: HostRuntime) -> Result<(), Fail> {
-        let alloc = rt.alloc();
-        let process = process::id(rt.process());
-        let file = format!(in alloc; "pb_io_{process}")?;
-        let path = env::temp_dir(&rt)?.join(alloc, file.as_str())?;
-        let name = path.as_str();
-        // More bytes than one read takes.
-        let bytes = vec![in alloc; b'x'; 10_000]?;
-        fs::write(&rt, name, bytes.as_slice())?;
-        let mut files = HostFiles::new(&rt);
-        let read = read_file(alloc, &mut files, name, 10_000)?;
-        assert_eq!(rt; read, bytes);
-        fs::remove_file(&rt, name)?;
-        let missing = read_file(alloc, &mut files, name, 10_000).err();
-        assert_eq!(rt; missing, Some(ReadError::ReadFault));
-        assert_eq!(rt; files.faults, 1);
-        Ok(())
-    }
-}

@@ -49,29 +49,3 @@ impl<W: Write + Drop> Sink for HostSink<W> {
         counted(&mut self.faults, outcome)
     }
 }
-
-#[cfg(test)]
-mod tests {
-    use super::*;
-    use crate::{PutError, put_all};
-    use std::test::Fail;
-
-    #[test]
-    fn writes_to_a_stream(rt: HostRuntime) -> Result<(), Fail> {
-        let mut bytes = [0; 4];
-        let mut sink = HostSink::new(bytes.as_mut_slice());
-        assert_eq!(rt; put_all(&mut sink, b"ab"), Ok(()));
-        assert_eq!(rt; sink.flush(), Ok(()));
-        assert_eq!(rt; sink.faults, 0);
-        // There is room for two more, and then a write takes nothing.
-        assert_eq!(rt; put_all(&mut sink, b"cde"), Err(PutError::WriteFault));
-        assert_eq!(rt; sink.faults, 1);
-        assert_eq!(rt; bytes, *b"abcd");
-
-        let mut output = HostSink::new(rt.stdout());
-        let mut errors = HostSink::new(rt.stderr());
-        assert_eq!(rt; put_all(&mut output, b"output\n"), Ok(()));
-        assert_eq!(rt; put_all(&mut errors, b"errors\n"), Ok(()));
-        Ok(())
-    }
-}

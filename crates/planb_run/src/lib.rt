@@ -19,6 +19,3 @@ mod uncaught;
 pub use ending::{Ending, Reported, Stop};
 pub use java_source::{SourceRefusal, TokenKindError};
 pub use top::planb;
-
-#[cfg(test)]
-mod tests;

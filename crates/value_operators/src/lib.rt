@@ -12,8 +12,6 @@ mod ints;
 mod operators;
 mod printing;
 mod shown;
-#[cfg(test)]
-mod tests;
 mod texts;
 
 pub use operators::{binary_value, unary_value, update_value};

@@ -1,10 +1,14 @@
+//! A store seen by positions.
+
 ghost use Rattle.std.specs.Prelude.{◌≡◌, [], ◌∷◌, IfOk};
 ghost use Rattle.core_tree.specs.declared.ty.Ty.TheVariants as ty;
 ghost use Rattle.heap_arena.specs.Heap.{field_types_of};
 
-use crate::{cell, class_at, elements_at, elements_count, kind_at, make, object_fits, write};
 use core_tree::{Class, Field, OutOfMemory, Program, Text, Ty};
 use heap_arena::{Cell, CopyStore, Kind};
+use object_cells::{
+    cell, class_at, elements_at, elements_count, kind_at, make, object_fits, write,
+};
 use sqlite_items::Items;
 use std::alloc::Global;
 use std::test::Fail;
@@ -43,7 +47,7 @@ fn program(alloc: Global) -> Result<Program, OutOfMemory>
     })
 }
 
-// What a cell holds: a number, `null`, a position behind `@`, or nothing where there is no cell.
+// What a cell holds: a number, `null`, a position after `@`, or nothing where there is no cell.
 fn written(alloc: Global, found: Option<Cell<u32>>) -> Result<String, OutOfMemory> {
     Ok(match found {
         None => String::new(alloc),

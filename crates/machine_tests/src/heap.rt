@@ -1,10 +1,12 @@
+//! The heap: what is made, written and read, and what marks do to it.
+
 ghost use Rattle.std.specs.Prelude.{◌≡◌, [], ◌∷◌, IfOk};
 ghost use Rattle.core_tree.specs.declared.ty.Ty.TheVariants as ty;
 ghost use Rattle.heap_arena.specs.Heap.{field_types_of};
 
-use crate::law::nest;
-use crate::{Cell, CopyStore, Kind, MakeError, ObjRef, Store};
 use core_tree::{Class, Field, OutOfMemory, Program, Text, Ty};
+use heap_arena::law::nest;
+use heap_arena::{Cell, CopyStore, Kind, MakeError, ObjRef, Store};
 use sqlite_items::Items;
 use std::alloc::Global;
 use std::test::Fail;
@@ -126,7 +128,7 @@ fn marks_nest(rt: HostRuntime) -> Result<(), Fail> {
 }
 
 #[test]
-fn a_heap_has_at_most_so_many_cells(rt: HostRuntime) -> Result<(), Fail> {
+fn a_heap_has_a_limit(rt: HostRuntime) -> Result<(), Fail> {
     let alloc = rt.alloc();
     let mut store = CopyStore::new(alloc, &program(alloc)?)?;
     store.make(Kind::Array(Ty::Text), 0)?;

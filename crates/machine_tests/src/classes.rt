@@ -1,11 +1,14 @@
-use crate::{is_assignable, is_subclass, kind_fits};
+//! Which class is below which, and which value a variable may have.
+
+use class_order::{is_assignable, is_subclass, kind_fits};
 use core_tree::{Class, OutOfMemory, Text, Ty};
 use heap_arena::Kind;
 use sqlite_items::{Boxed, Items};
 use std::alloc::Global;
 use std::test::Fail;
 
-// The classes Object, A below Object and B below A, one whose superclass is missing, and two that are each other's ancestor.
+// The classes Object, A below Object and B below A, one whose superclass is missing, and two that are each other's
+// ancestor.
 fn classes(alloc: Global) -> Result<Items<Class>, OutOfMemory> {
     let mut classes = Items::new(alloc);
     for parent in [None, Some(0), Some(1), Some(9), Some(5), Some(4)] {
@@ -101,8 +104,8 @@ fn kind_row(
     Ok(row)
 }
 
-/// Which assignments `javac` 17 accepts, one row for each type that is assigned, the null type last, and one column for each
-/// type of a variable; but no int, boolean or String is an Object here, and nothing is boxed.
+/// Which assignments `javac` 17 accepts, one row for each type that is assigned, the null type last, and one column for
+/// each type of a variable; but no int, boolean or String is an Object here, and nothing is boxed.
 #[test]
 fn types_fit_as_javac_says(rt: HostRuntime) -> Result<(), Fail> {
     let alloc = rt.alloc();
@@ -116,7 +119,8 @@ fn types_fit_as_javac_says(rt: HostRuntime) -> Result<(), Fail> {
     rows.push_str(row(alloc, &classes, &Ty::Null, &types)?.as_str())?;
     assert_eq!(rt;
         rows.as_str(),
-        "10000000000 01000000000 00100000000 00010000000 00011000000 00011100000 00010010000 00010001010 00010001110 00010000010 00010000011 00111111111"
+        "10000000000 01000000000 00100000000 00010000000 00011000000 00011100000 00010010000 00010001010 00010001110 \
+        00010000010 00010000011 00111111111"
     );
     Ok(())
 }

@@ -1,12 +1,14 @@
-use crate::{
-    binary_value, concatenated, literal, print_bytes, text_equals, text_length, unary_value,
-    update_value,
-};
+//! What operators, literals, concatenations and prints make of values.
+
 use core_tree::{BinOp, OutOfMemory, Text, UnOp, UpOp};
 use evaluation::Computed;
 use heap_arena::Cell;
 use std::alloc::Global;
 use std::test::Fail;
+use value_operators::{
+    binary_value, concatenated, literal, print_bytes, text_equals, text_length, unary_value,
+    update_value,
+};
 
 // Appends a space and what a print writes of a value, or what there is in its place.
 fn show(alloc: Global, out: &mut String, computed: Computed) -> Result<(), OutOfMemory> {
@@ -71,8 +73,8 @@ fn results(alloc: Global, a: &Cell<u32>, b: &Cell<u32>) -> Result<String, OutOfM
     Ok(out)
 }
 
-/// What Java 17 prints for `+`, `-`, `*`, `/`, `%`, `<<`, `>>`, `>>>`, `&`, `|`, `^`, `==`, `!=`, `<`, `<=`, `>`, `>=`, and
-/// for `+a`, `-a`, `~a` and `!a`, with `-` where `javac` refuses the operands.
+/// What Java 17 prints for `+`, `-`, `*`, `/`, `%`, `<<`, `>>`, `>>>`, `&`, `|`, `^`, `==`, `!=`, `<`, `<=`, `>`, `>=`,
+/// and for `+a`, `-a`, `~a` and `!a`, with `-` where `javac` refuses the operands.
 #[test]
 fn operators_agree_with_java(rt: HostRuntime) -> Result<(), Fail> {
     let alloc = rt.alloc();
@@ -80,7 +82,8 @@ fn operators_agree_with_java(rt: HostRuntime) -> Result<(), Fail> {
         (
             Cell::Int(i32::MIN),
             Cell::Int(-1),
-            " 2147483647 -2147483647 -2147483648 -2147483648 0 0 -1 1 -2147483648 -1 2147483647 false true true true false false; -2147483648 -2147483648 2147483647 -",
+            " 2147483647 -2147483647 -2147483648 -2147483648 0 0 -1 1 -2147483648 -1 2147483647 false true true true \
+            false false; -2147483648 -2147483648 2147483647 -",
         ),
         (
             Cell::Int(7),
@@ -144,8 +147,8 @@ fn operators_agree_with_java(rt: HostRuntime) -> Result<(), Fail> {
     Ok(())
 }
 
-/// What Java 17 prints for `a + b`, `a.length()` and `a.equals(b)`, with `-` where `javac` refuses them and the exception where
-/// `a` is null.
+/// What Java 17 prints for `a + b`, `a.length()` and `a.equals(b)`, with `-` where `javac` refuses them and the
+/// exception where `a` is null.
 #[test]
 fn texts_agree_with_java(rt: HostRuntime) -> Result<(), Fail> {
     let alloc = rt.alloc();
@@ -171,8 +174,8 @@ fn texts_agree_with_java(rt: HostRuntime) -> Result<(), Fail> {
     Ok(())
 }
 
-/// The compound assignments `+=`, `-=`, `*=`, `/=`, `%=`, `<<=`, `>>=`, `>>>=`, `&=`, `|=` and `^=` with 7 and -2, and `+=` on a
-/// String, as Java 17 prints them.
+/// The compound assignments `+=`, `-=`, `*=`, `/=`, `%=`, `<<=`, `>>=`, `>>>=`, `&=`, `|=` and `^=` with 7 and -2, and
+/// `+=` on a String, as Java 17 prints them.
 #[test]
 fn compound_assignments_agree_with_java(rt: HostRuntime) -> Result<(), Fail> {
     let alloc = rt.alloc();
@@ -201,7 +204,7 @@ fn compound_assignments_agree_with_java(rt: HostRuntime) -> Result<(), Fail> {
     Ok(())
 }
 
-// The text twice, one behind the other.
+// The text twice, one after the other.
 fn doubled(alloc: Global, v: &Cell<u32>) -> Result<Cell<u32>, OutOfMemory> {
     match concatenated(alloc, v, v)? {
         Computed::Gives(twice) => Ok(twice),

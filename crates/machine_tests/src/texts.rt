@@ -1,4 +1,6 @@
-use crate::{BuiltIn, Text};
+//! The texts of a program, and the numbers of the built-in classes.
+
+use core_tree::{BuiltIn, Text};
 use std::test::Fail;
 
 #[test]

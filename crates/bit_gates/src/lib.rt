@@ -16,8 +16,6 @@ mod constants;
 mod digits;
 mod negation;
 mod product;
-#[cfg(test)]
-mod tests;
 mod total;
 
 pub use arithmetic::{add, minus, neg};

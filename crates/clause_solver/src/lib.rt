@@ -22,6 +22,3 @@ mod values;
 
 pub use solved::Solved;
 pub use solver::solve;
-
-#[cfg(test)]
-mod tests;

@@ -14,8 +14,6 @@ mod gate;
 mod literal;
 mod net;
 mod node;
-#[cfg(test)]
-mod tests;
 mod value;
 
 pub use net::Net;

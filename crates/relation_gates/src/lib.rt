@@ -11,8 +11,6 @@ mod matrix;
 mod paths;
 mod product;
 mod sets;
-#[cfg(test)]
-mod tests;
 mod turned;
 
 pub use matrix::{Matrix, Row};

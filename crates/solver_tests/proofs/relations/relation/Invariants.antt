@@ -2,7 +2,7 @@ use Rattle.std.proofs.Common.{◌≡◌, ◌≤◌, ◌+◌, ◌*◌, length}
 use Rattle.std.specs.List.{All}
 use Rattle.gate_net.specs.Net.{Continues, nodes_of, inputs_of}
 use Rattle.relation_gates.specs.Relations.{IsRow}
-use Rattle.relation_gates.proofs.tests.relation.Given as goal
+use Rattle.solver_tests.proofs.relations.relation.Given as goal
 
 abbrev pub invariant-loop-x : goal.invariant-loop-x
 invariant-loop-x l = record {

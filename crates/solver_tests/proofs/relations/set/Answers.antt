@@ -1,7 +1,7 @@
 use Rattle.std.proofs.Common.{refl, rules, arith}
 use Rattle.gate_net.proofs.Growth.{continues-same, continues-then}
 use Rattle.relation_gates.proofs.Rows.{nodes-push, size-push}
-use Rattle.relation_gates.proofs.tests.set.Goals as goal
+use Rattle.solver_tests.proofs.relations.set.Goals as goal
 
 pub loop-y-init : goal.loop-y-init
 loop-y-init c = record {

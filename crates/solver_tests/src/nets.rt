@@ -1,4 +1,4 @@
-use crate::Net;
+use gate_net::Net;
 use std::test::Fail;
 
 // The values of `a and b`, `a or b`, `a xor b`, `not a` and a constant, by the truth tables of the operators.

@@ -1,7 +1,7 @@
 use Rattle.std.proofs.Common.{◌≡◌, ◌+◌, length}
 use Rattle.std.specs.List.{All}
 use Rattle.gate_net.specs.Net.{Continues, IsNode, nodes_of, inputs_of}
-use Rattle.relation_gates.proofs.tests.set.Given as goal
+use Rattle.solver_tests.proofs.relations.set.Given as goal
 
 abbrev pub invariant-loop-y : goal.invariant-loop-y
 invariant-loop-y l = record {

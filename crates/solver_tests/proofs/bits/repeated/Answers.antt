@@ -1,4 +1,4 @@
-use Rattle.std.proofs.Common.{ℕ, ◌≡◌, ◌+◌, ◌*◌, [], ◌∷◌, ◌++◌, ◌∙◌, length, ap, sym, subst, arith, rules}
+use Rattle.std.proofs.Common.{ℕ, ◌≡◌, ◌+◌, ◌*◌, [], ◌∷◌, ◌++◌, ◌∙◌, length, ap, sym, subst, arith}
 use Rattle.std.specs.List.{All}
 use Rattle.std.proofs.lemmas.List.{length_push}
 use Rattle.std.proofs.lemmas.List.Elements.{All-push, All-same}
@@ -6,10 +6,9 @@ use Rattle.gate_net.specs.Net.{IsNode}
 use Rattle.gate_net.specs.declared.node.Node.{Node}
 use Rattle.bit_gates.specs.declared.bits.Bits.{Bits}
 use Rattle.bit_gates.specs.Whole.{width_of}
-use Rattle.bit_gates.specs.Bits.{IsBits}
 use Rattle.bit_gates.specs.Totals.{IsPart, bounds, widths}
 use Rattle.bit_gates.proofs.Sums.{bounds-push, widths-push}
-use Rattle.bit_gates.proofs.tests.repeated.Goals as goal
+use Rattle.solver_tests.proofs.bits.repeated.Goals as goal
 
 more : (w i : ℕ) → w * (i + 1) ≡ w * i + w
 more w i = grind arith

@@ -1,7 +1,7 @@
 use Rattle.std.proofs.Common.{refl, rules, arith}
 use Rattle.gate_net.proofs.Growth.{continues-same, continues-then}
 use Rattle.relation_gates.proofs.Rows.{rows-push, size-push}
-use Rattle.relation_gates.proofs.tests.relation.Goals as goal
+use Rattle.solver_tests.proofs.relations.relation.Goals as goal
 
 pub loop-x-init : goal.loop-x-init
 loop-x-init c = record {

@@ -2,7 +2,7 @@ use Rattle.std.proofs.Common.{◌≡◌, ◌*◌, length}
 use Rattle.std.specs.List.{All}
 use Rattle.bit_gates.specs.Whole.{width_of}
 use Rattle.bit_gates.specs.Totals.{IsPart, bounds, widths}
-use Rattle.bit_gates.proofs.tests.repeated.Given as goal
+use Rattle.solver_tests.proofs.bits.repeated.Given as goal
 
 abbrev pub invariant-loop : goal.invariant-loop
 invariant-loop l = record {

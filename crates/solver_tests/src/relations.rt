@@ -1,14 +1,14 @@
 //! Each call against a plain computation, over relations whose pairs are inputs of the net.
 
-mod plain;
-
 ghost use Rattle.std.specs.Prelude.{◌≡◌, ◌<◌, ◌≤◌, ◌+◌, ◌*◌, ◌^◌, IfOk, OnOk, length};
 ghost use Rattle.gate_net.specs.Net.{IsNode, Continues, nodes_of, inputs_of};
 ghost use Rattle.relation_gates.specs.Relations.{IsMatrix, IsRow};
 
-use crate::{Matrix, Row};
+mod plain;
+
 use gate_net::{Net, Node};
 use plain::{Call, OBJECTS, SetCall, expected, expected_set, random};
+use relation_gates::{Matrix, Row};
 use std::alloc::{AllocError, Global};
 use std::process::Abort;
 use std::test::Fail;
@@ -99,12 +99,12 @@ fn made(net: &mut Net, call: Call, a: &Matrix, b: &Matrix) -> Result<Matrix, All
     ensures matrix { IfOk result (λ matrix. IsMatrix net.new (length a.now) matrix) }
 {
     match call {
-        Call::Union => crate::union(net, a, b),
-        Call::Inter => crate::inter(net, a, b),
-        Call::Minus => crate::minus(net, a, b),
-        Call::Join => crate::join(net, a, b),
-        Call::Converse => crate::converse(net, a),
-        Call::Closure => crate::closure(net, a),
+        Call::Union => relation_gates::union(net, a, b),
+        Call::Inter => relation_gates::inter(net, a, b),
+        Call::Minus => relation_gates::minus(net, a, b),
+        Call::Join => relation_gates::join(net, a, b),
+        Call::Converse => relation_gates::converse(net, a),
+        Call::Closure => relation_gates::closure(net, a),
     }
 }
 
@@ -119,46 +119,49 @@ fn made_set(net: &mut Net, call: SetCall, a: &Row, b: &Row, r: &Matrix) -> Resul
     ensures row { IfOk result (λ row. IsRow net.new (length r.now) row) }
 {
     match call {
-        SetCall::Union => crate::row_union(net, a, b),
-        SetCall::Inter => crate::row_inter(net, a, b),
-        SetCall::Minus => crate::row_minus(net, a, b),
-        SetCall::Image => crate::image(net, a, r),
+        SetCall::Union => relation_gates::row_union(net, a, b),
+        SetCall::Inter => relation_gates::row_inter(net, a, b),
+        SetCall::Minus => relation_gates::row_minus(net, a, b),
+        SetCall::Image => relation_gates::image(net, a, r),
     }
 }
 
-// The members of a set are those that are expected.
-fn check_members(
-    rt: &impl Abort,
-    net: &Net,
-    row: &Row,
-    inputs: &[bool],
-    members: u16,
-) -> Result<(), Fail>
+// The members of a set where the inputs have these values.
+fn read_set(net: &Net, row: &Row, inputs: &[bool]) -> Result<u16, AllocError>
     requires small { length row.now ≤ 12 }
     requires row { IsRow net.now (length row.now) row.now }
     requires given { length inputs.now ≡ inputs_of net.now }
 {
     let nodes = row.nodes();
+    let mut members = 0;
     for y in 0..nodes.len() {
-        assert_eq!(rt;
-            net.value(nodes[y], inputs)?,
-            members >> y & 1 == 1,
-            "object {y}"
-        );
+        members |= u16::from(net.value(nodes[y], inputs)?) << y;
     }
-    Ok(())
+    Ok(members)
 }
 
-// A call makes the relation of these rows.
-fn check(
-    rt: &impl Abort,
+// The rows of a relation where the inputs have these values.
+fn read(net: &Net, matrix: &Matrix, inputs: &[bool]) -> Result<[u16; OBJECTS], AllocError>
+    requires small { length matrix.now ≤ 12 }
+    requires matrix { IsMatrix net.now (length matrix.now) matrix.now }
+    requires given { length inputs.now ≡ inputs_of net.now }
+{
+    let found = matrix.rows();
+    let mut rows = [0; OBJECTS];
+    for x in 0..found.len() {
+        rows[x] = read_set(net, &found[x], inputs)?;
+    }
+    Ok(rows)
+}
+
+// The relation that a call makes of two relations.
+fn answer(
     alloc: Global,
     call: Call,
     first: &[u16; OBJECTS],
     second: &[u16; OBJECTS],
     objects: usize,
-    rows: &[u16; OBJECTS],
-) -> Result<(), Fail>
+) -> Result<[u16; OBJECTS], AllocError>
     requires { objects ≤ 12 }
 {
     let mut net = Net::new(alloc)?;
@@ -166,32 +169,64 @@ fn check(
     let a = relation(&mut net, &mut inputs, first, objects)?;
     let b = relation(&mut net, &mut inputs, second, objects)?;
     let result = made(&mut net, call, &a, &b)?;
-    let found = result.rows();
-    for x in 0..found.len() {
-        check_members(rt, &net, &found[x], inputs.as_slice(), rows[x])?;
-    }
-    Ok(())
+    read(&net, &result, inputs.as_slice())
 }
 
-// A call makes the set of these members.
-fn check_set(
-    rt: &impl Abort,
+// The set that a call makes of two sets, or of a set and a relation.
+fn set_answer(
     alloc: Global,
     call: SetCall,
+    first: u16,
+    second: u16,
     rows: &[u16; OBJECTS],
     objects: usize,
-) -> Result<(), Fail>
+) -> Result<u16, AllocError>
     requires { objects ≤ 12 }
 {
-    let (first, second) = (rows[0], rows[objects % OBJECTS]);
     let mut net = Net::new(alloc)?;
     let mut inputs = Vec::new(alloc);
     let r = relation(&mut net, &mut inputs, rows, objects)?;
     let a = set(&mut net, &mut inputs, first, objects)?;
     let b = set(&mut net, &mut inputs, second, objects)?;
     let result = made_set(&mut net, call, &a, &b, &r)?;
-    let members = expected_set(call, first, second, rows);
-    check_members(rt, &net, &result, inputs.as_slice(), members)
+    read_set(&net, &result, inputs.as_slice())
+}
+
+fn check_calls(
+    rt: &impl Abort,
+    alloc: Global,
+    first: &[u16; OBJECTS],
+    second: &[u16; OBJECTS],
+    objects: usize,
+) -> Result<(), Fail>
+    requires { objects ≤ 12 }
+{
+    for call in CALLS {
+        let found = answer(alloc, call, first, second, objects)?;
+        assert_eq!(rt;
+            found,
+            expected(call, first, second),
+            "{call:?} over {objects} objects"
+        );
+    }
+    Ok(())
+}
+
+fn check_set_calls(
+    rt: &impl Abort,
+    alloc: Global,
+    rows: &[u16; OBJECTS],
+    objects: usize,
+) -> Result<(), Fail>
+    requires { objects ≤ 12 }
+{
+    let (first, second) = (rows[0], rows[objects % OBJECTS]);
+    for call in SET_CALLS {
+        let found = set_answer(alloc, call, first, second, rows, objects)?;
+        let members = expected_set(call, first, second, rows);
+        assert_eq!(rt; found, members, "{call:?} over {objects} objects");
+    }
+    Ok(())
 }
 
 #[test]
@@ -200,20 +235,8 @@ fn agrees_with_a_plain_computation(rt: HostRuntime) -> Result<(), Fail> {
         let objects = 1 + seed as usize % OBJECTS;
         let first = random(seed, objects);
         let second = random(seed + 1000, objects);
-        for call in CALLS {
-            check(
-                &rt,
-                rt.alloc(),
-                call,
-                &first,
-                &second,
-                objects,
-                &expected(call, &first, &second),
-            )?;
-        }
-        for call in SET_CALLS {
-            check_set(&rt, rt.alloc(), call, &first, objects)?;
-        }
+        check_calls(&rt, rt.alloc(), &first, &second, objects)?;
+        check_set_calls(&rt, rt.alloc(), &first, objects)?;
     }
     Ok(())
 }
@@ -221,17 +244,22 @@ fn agrees_with_a_plain_computation(rt: HostRuntime) -> Result<(), Fail> {
 // A chain of two edges, and a circle of 12.
 #[test]
 fn paths_are_of_any_length(rt: HostRuntime) -> Result<(), Fail> {
-    let chain = [0b010, 0b100, 0, 0, 0, 0, 0, 0, 0, 0, 0, 0];
-    let paths = [0b110, 0b100, 0, 0, 0, 0, 0, 0, 0, 0, 0, 0];
-    check(&rt, rt.alloc(), Call::Closure, &chain, &chain, 3, &paths)?;
-    let circle = [2, 4, 8, 16, 32, 64, 128, 256, 512, 1024, 2048, 1];
-    check(
-        &rt,
-        rt.alloc(),
-        Call::Closure,
-        &circle,
-        &circle,
-        12,
-        &[4095; OBJECTS],
-    )
+    let rows: [(usize, [u16; OBJECTS], [u16; OBJECTS]); 2] = [
+        (
+            3,
+            [0b010, 0b100, 0, 0, 0, 0, 0, 0, 0, 0, 0, 0],
+            [0b110, 0b100, 0, 0, 0, 0, 0, 0, 0, 0, 0, 0],
+        ),
+        (
+            12,
+            [2, 4, 8, 16, 32, 64, 128, 256, 512, 1024, 2048, 1],
+            [4095; OBJECTS],
+        ),
+    ];
+    for (objects, edges, paths) in rows {
+        assert!(rt; objects <= OBJECTS);
+        let found = answer(rt.alloc(), Call::Closure, &edges, &edges, objects)?;
+        assert_eq!(rt; found, paths, "{objects} objects");
+    }
+    Ok(())
 }

@@ -24,6 +24,3 @@ pub use clauses::Clauses;
 pub use derivation::{Cut, Line};
 pub use dimacs::write_dimacs;
 pub use literal::negated;
-
-#[cfg(test)]
-mod tests;

@@ -5,18 +5,10 @@
 //! `--check` the answer is tried first, and `c checked` says that it passed. The status is 10, 20 or 0, and 1 where
 //! there is no answer.
 //!
-//! Read `command`, `clause_reader`, `dimacs`, `answer` and `running`.
+//! `dimacs_run` does the work; here it is given the system's words, files and streams.
 #![tactic(auto)]
 
-mod answer;
-mod clause_reader;
-mod command;
-mod dimacs;
-mod running;
-#[cfg(test)]
-mod tests;
-
-use crate::running::run;
+use dimacs_run::run;
 use pb_io::{HostFiles, HostSink, put_all};
 use std::env::Env;
 use std::process::ExitCode;

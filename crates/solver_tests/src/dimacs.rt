@@ -1,4 +1,4 @@
-use crate::running::run;
+use dimacs_run::run;
 use pb_io::{MemFiles, MemSink};
 use std::test::Fail;
 

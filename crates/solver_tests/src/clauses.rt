@@ -1,4 +1,4 @@
-use crate::{Clause, Clauses, negated, write_dimacs};
+use clause_form::{Clause, Clauses, negated, write_dimacs};
 use pb_io::{MemSink, PutError};
 use std::process::Abort;
 use std::test::Fail;

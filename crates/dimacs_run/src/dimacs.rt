@@ -7,7 +7,7 @@ use thiserror::Error;
 
 /// Why a text has no clauses. The number is that of the line, from 1.
 #[derive(Clone, Copy, Debug, PartialEq, Eq, Drop, Error)]
-pub(crate) enum DimacsError {
+pub enum DimacsError {
     #[error("line {0}: expected 'p cnf VARIABLES CLAUSES'")]
     Header(u32),
     #[error("line {0}: expected a literal of one of the variables, or 0")]
@@ -22,7 +22,7 @@ pub(crate) enum DimacsError {
 
 impl From<AllocError> for DimacsError {
     ghost use Rattle.std.specs.Prelude.{◌≡◌};
-    ghost use Rattle.solve_dimacs.specs.declared.dimacs.DimacsError.TheVariants.{OutOfMemory};
+    ghost use Rattle.dimacs_run.specs.declared.dimacs.DimacsError.TheVariants.{OutOfMemory};
 
     ghost from_gives = { λ _ error. error ≡ OutOfMemory };
 

@@ -12,7 +12,7 @@ const MOST_BYTES: usize = 1 << 30;
 
 /// Why there is no answer.
 #[derive(Debug, PartialEq, Eq, Drop, Error)]
-pub(crate) enum Failure {
+pub enum Failure {
     #[error("usage: solve_dimacs [--check] LIMIT FILE, with a limit of 1 to 1000000000")]
     Words,
     #[error("the file can't be read: {0}")]
@@ -31,7 +31,7 @@ pub(crate) enum Failure {
 
 impl From<AllocError> for Failure {
     ghost use Rattle.std.specs.Prelude.{◌≡◌};
-    ghost use Rattle.solve_dimacs.specs.declared.running.Failure.TheVariants.{OutOfMemory};
+    ghost use Rattle.dimacs_run.specs.declared.running.Failure.TheVariants.{OutOfMemory};
 
     ghost from_gives = { λ _ failure. failure ≡ OutOfMemory };
 
@@ -42,7 +42,7 @@ impl From<AllocError> for Failure {
 
 /// Does what the words ask, of which the first is the program's name, and answers the status: 10 where an assignment
 /// satisfies the clauses, 20 where none does, and 0 where the limit is used up.
-pub(crate) fn run<F: Files, O: Sink>(
+pub fn run<F: Files, O: Sink>(
     alloc: Global,
     words: &[String],
     files: &mut F,

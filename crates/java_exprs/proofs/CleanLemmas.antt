@@ -2,6 +2,7 @@
 use Rattle.std.proofs.Common.{◌≡◌, ℕ, Bool, true, false, ◌||◌, ◌&&◌, List, [], ◌∷◌, ◌++◌, Option, Some, refl, sym}
 use Rattle.core_tree.specs.declared.ty.Ty.{Ty}
 use Rattle.core_tree.specs.declared.ty.Ty.TheVariants as ty
+use Rattle.core_tree.specs.declared.ty.Ty.TheViews as type
 use Rattle.core_tree.specs.Types.{elements_of, is_int, is_object, is_string}
 use Rattle.core_tree.specs.declared.operator.UnOp.{UnOp}
 use Rattle.core_tree.specs.declared.operator.UnOp.TheVariants as un
@@ -11,6 +12,7 @@ use Rattle.core_tree.specs.declared.expr.Expr.TheViews as view
 use Rattle.java_syntax.specs.declared.fault.Fault.{Fault}
 use Rattle.java_syntax.specs.declared.name.Ident.{Ident}
 use Rattle.java_syntax.specs.declared.name.TypeTree.{TypeTree}
+use Rattle.java_syntax.specs.declared.name.BaseType.{BaseType}
 use Rattle.java_syntax.specs.declared.operator.UnaryOp.{UnaryOp}
 use Rattle.java_syntax.specs.declared.operator.UnaryOp.TheVariants as unary
 use Rattle.java_syntax.specs.declared.operator.BinaryOp.{BinaryOp}
@@ -31,7 +33,7 @@ use Rattle.java_exprs.specs.Calls.{calling_of, call_faults, call_attr}
 use Rattle.java_exprs.specs.Checks.{attr_at, clean, of_value}
 use Rattle.java_exprs.specs.Denotes.{binary_type, length_name, unary_type}
 use Rattle.java_exprs.specs.Fields.{length_attr}
-use Rattle.java_exprs.specs.Lookups.{answer_denotes, type_named, unknown_type}
+use Rattle.java_exprs.specs.Lookups.{answer_denotes, elements_named, type_named, unknown_base, unknown_type}
 use Rattle.java_exprs.specs.Resolved.{binary_core, method_core, un_op}
 use Rattle.java_exprs.specs.Rules.{broken_below, broken_here, cast_15, choice_11, has_members, is_array, method_at, unary_11, wants}
 use Rattle.java_exprs.specs.Types.{is_either_way, wider}
@@ -124,6 +126,15 @@ pub binary_clean : (env : Environment) (s : Scope) (op : BinaryOp) (l r : Value)
     ≡ clean (record { at = l.at; denotes = denotes.Value t; form = form.Other; needs_minus = false; core = core })
 binary_clean env s op l r t joins core allowed type_is joins_is core_is =
     value_known l.at _ _ _ t core (rw (sym type_is) refl) (rw (core_is, joins_is) refl) allowed
+
+-- ---- arrays
+
+pub array_clean : (env : Environment) (s : Scope) (at : ℕ) (base : BaseType) (e : Value) (dimensions : ℕ) (t again : Ty) (core : Core)
+    → elements_named env base dimensions ≡ Some t → unknown_base env base ≡ [] → of_rule 11 (wants is_int (of_value e)) [] ≡ [] → again ≡ t → core ≡ e.core
+    → attr_at env s (Expr-F.NewArray at base (of_value e) dimensions)
+    ≡ clean (record { at = at; denotes = denotes.Value (type.Array again); form = form.Other; needs_minus = false; core = view.NewArray t core })
+array_clean env s at base e dimensions t again core found known allowed again_is core_is =
+    value_known at _ _ _ (type.Array again) (view.NewArray t core) (rw (found, again_is) refl) (rw (found, core_is) refl) (rw known allowed)
 
 -- ---- calls
 

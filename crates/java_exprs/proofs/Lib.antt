@@ -9,3 +9,5 @@ pub mod FieldLemmas
 pub mod Rows
 pub mod ArgumentLemmas
 pub mod CallLemmas
+pub mod CleanLemmas
+pub mod ValueLemmas

@@ -194,7 +194,6 @@ fn behind_part(
 /// # Errors
 /// `Fault` of rule 11 where `o` is a call without a result, and of rule 19 where it is the number 2147483648, at its first
 /// token; of rules 10 to 14 at the method's name or at an argument. `OutOfMemory` where there is no memory left.
-#[tactic(auto, using(crate::proofs::CallLemmas::class_checks, crate::proofs::CallLemmas::print_checks))]
 pub fn method(
     alloc: Global,
     env: &Environment,

@@ -138,7 +138,6 @@ fn output(alloc: Global, at: u32, system: Expr, f: &Ident) -> Result<Typed, Chec
 /// `Fault` at the first token of `o`: of rule 11 where it is an int, a boolean, null or a call without a result, and of rule 19
 /// where it is the number 2147483648. `OutOfMemory` where there is no memory left, and where the type of the field's
 /// declaration has an unknown name.
-#[tactic(auto, using(crate::proofs::FieldLemmas::behind))]
 pub fn field(
     alloc: Global,
     env: &Environment,

@@ -80,7 +80,6 @@ fn element_core(alloc: Global, a: Expr, i: Expr) -> Result<Expr, AllocError>
 /// # Errors
 /// `Fault` of rule 11 at the first token of `a` where that is no array, and of `i` where that is no int. `OutOfMemory` where
 /// there is no memory left.
-#[tactic(auto, using(crate::proofs::TypeForms::elements_are, crate::proofs::TypeForms::elements_are_not))]
 pub fn element(
     alloc: Global,
     env: &Environment,

@@ -1,0 +1,20 @@
+-- What a sequence of two readers reads.
+use Rattle.std.proofs.Common.{◌≡◌, List, Result, Ok, Err, refl}
+use Rattle.std.specs.Result.{IsErrAnd}
+use Rattle.java_syntax.specs.Lexeme.{Lexeme}
+use Rattle.java_reading.specs.Outcome.{Outcome, Parser, ◌>>=◌}
+use Rattle.java_parse.specs.declared.refusal.Refusal.{Refusal}
+use Rattle.java_parse.specs.declared.refusal.Refusal.TheVariants as refusal
+use Rattle.java_parse.specs.Reads.{Fails, Reads}
+
+-- the result of a `?`
+pub failed : {A : Type 0} (o : Outcome A) (r : Result A Refusal) (e : Refusal) (after : List Lexeme)
+    → IsErrAnd r (λ y. y ≡ e) → Fails o e → Reads o r after
+failed o (Ok a) e after is f = absurd is
+failed o (Err y) e after is f = rw is f
+
+-- the first of two fails
+pub first : {A B : Type 0} (o : Outcome A) (f : A → Parser B) (e : Refusal) → Fails o e → Fails (o >>= f) e
+first o f refusal.NoTree h = rw h refl
+first o f refusal.TooHigh h = rw h refl
+first o f refusal.OutOfMemory h = tt

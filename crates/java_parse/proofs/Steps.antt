@@ -1,5 +1,5 @@
 -- What a sequence of two readers reads.
-use Rattle.std.proofs.Common.{◌≡◌, List, Result, Ok, Err, refl}
+use Rattle.std.proofs.Common.{◌≡◌, Bool, true, false, if◌then◌else◌, List, Result, Ok, Err, refl, sym}
 use Rattle.std.specs.Result.{IsErrAnd}
 use Rattle.java_syntax.specs.Lexeme.{Lexeme}
 use Rattle.java_reading.specs.Outcome.{Outcome, Parser, ◌>>=◌}
@@ -18,3 +18,13 @@ pub first : {A B : Type 0} (o : Outcome A) (f : A → Parser B) (e : Refusal) �
 first o f refusal.NoTree h = rw h refl
 first o f refusal.TooHigh h = rw h refl
 first o f refusal.OutOfMemory h = tt
+
+-- the sign wasn't there
+pub kept : {X : Type 0} (found : Bool) (x y z : X) → false ≡ found → z ≡ (if found then y else x) → x ≡ z
+kept true x y z is after = absurd (cc)
+kept false x y z is after = sym after
+
+-- the sign was there
+pub taken : {X : Type 0} (found : Bool) (x y z : X) → true ≡ found → z ≡ (if found then y else x) → y ≡ z
+taken true x y z is after = sym after
+taken false x y z is after = absurd (cc)

@@ -72,7 +72,9 @@ impl Row {
 
     // Takes a further line.
     fn add(&mut self, alloc: Global, line: &str) -> Result<()> {
-        let (key, value) = line.split_once(':').unwrap_or((line, ""));
+        let Some((key, value)) = line.split_once(':') else {
+            return Ok(self.add_source(line.as_bytes())?);
+        };
         let value = value.trim_start();
         match key {
             "words" => self.words = words(alloc, value)?,

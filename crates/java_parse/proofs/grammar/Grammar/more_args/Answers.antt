@@ -1,7 +1,6 @@
-use Rattle.std.proofs.Common.{rules, arith, refl, sym}
+use Rattle.std.proofs.Common.{rules, arith}
 use Rattle.std.proofs.lemmas.Grind.{common_steps}
 use Rattle.java_reading.specs.ReadExpr.{reading, more_args}
-use Rattle.java_parse.proofs.Steps.{failed, first, kept, taken}
 use Rattle.java_parse.proofs.Turns.{one_more}
 use Rattle.java_parse.proofs.grammar.Grammar.more_args.Goals as goal
 
@@ -9,16 +8,16 @@ pub returns-then-not-eat-clause-reads : goal.returns-then-not-eat-clause-reads
 unfolding more_args
 returns-then-not-eat-clause-reads g c =
     let e = one_more (λ n. more_args (reading c.args.self.now.parts) n c.loop-turn.found c.loop-turn.height c.loop-turn.tokens) _ c.loop-turn._turn c.loop-turn-test.true c.loop-turn.invariant.0 in
-    rw (e, c.in_ok-arg.ensures.reads, sym c.if-not-eat.ensures.found, kept _ _ _ _ c.if-not-eat.ensures.found c.if-not-eat.ensures.after, c.in_ok-expect.ensures, c.in_ok-push.ensures.ok, c.max.ensures) refl
+    first_of (search rules, grind (arith, common_steps))
 
 pub loop-turn-preserved : goal.loop-turn-preserved
 unfolding more_args
 loop-turn-preserved g c =
     let e = one_more (λ n. more_args (reading c.args.self.now.parts) n c.loop-turn.found c.loop-turn.height c.loop-turn.tokens) _ c.loop-turn._turn c.loop-turn-test.true c.loop-turn.invariant.0 in
-    (rw (e, c.in_ok-arg.ensures.reads, sym c.if-not-eat.ensures.found, taken _ _ _ _ c.if-not-eat.ensures.found c.if-not-eat.ensures.after, c.in_ok-push.ensures.ok, c.max.ensures) refl, first_of (search rules, grind (arith, common_steps)))
+    (first_of (search rules, grind (arith, common_steps)), first_of (search rules, grind (arith, common_steps)))
 
 pub returns-in_err-expect-clause-reads : goal.returns-in_err-expect-clause-reads
 unfolding more_args
 returns-in_err-expect-clause-reads g c =
     let e = one_more (λ n. more_args (reading c.args.self.now.parts) n c.loop-turn.found c.loop-turn.height c.loop-turn.tokens) _ c.loop-turn._turn c.loop-turn-test.true c.loop-turn.invariant.0 in
-    failed _ _ _ _ c.from_residual-in_err-expect.ensures.1 (rw (e, c.in_ok-arg.ensures.reads, sym c.if-not-eat.ensures.found, kept _ _ _ _ c.if-not-eat.ensures.found c.if-not-eat.ensures.after) (first _ _ _ c.in_err-expect.ensures))
+    first_of (search rules, grind (arith, common_steps))

@@ -1,7 +1,7 @@
 """Random programs in planb's subset of Java, which javac accepts too.
 
 Every program ends: a method calls only methods with a lower number, a constructor only the first of them, a field's
-initialiser none, and each loop counts up a variable that nothing else changes. Jumps stand alone behind an `if`, so that
+initialiser none, and each loop counts up a variable that nothing else changes. Jumps stand alone after an `if`, so that
 javac finds no statement that can't be reached. Where the two languages differ, the program keeps to what both have: casts
 go to classes of the file by way of Object, and only the file's own exceptions are asked for their messages.
 """
@@ -225,7 +225,7 @@ class Body:
     # statements
 
     def block(self, count, last=lambda: ""):
-        """Statements in braces, the last as `last` makes it; what they declare is out of scope behind the block."""
+        """Statements in braces, the last as `last` makes it; what they declare is out of scope after the block."""
         depth = len(self.scope)
         self.nesting += 1
         inner = " ".join(self.statement() for _ in range(count))
@@ -276,7 +276,7 @@ class Body:
         return f"{call};" if call else self.print()
 
     def jump(self):
-        """A return, a throw, a break or a continue behind an `if`."""
+        """A return, a throw, a break or a continue after an `if`."""
         ways = [f"throw new {UNCHECKED}({self.value('String', 1)});"]
         if self.may_throw:
             ways.append(f"throw new {CHECKED}({self.value('String', 1)});")
@@ -317,7 +317,7 @@ class Body:
         catches = self.catches() if self.random.random() < 0.8 else []
         outer = self.may_throw
         self.may_throw = outer or bool(set(catches) & {CHECKED, "Exception", "Throwable"})
-        # javac wants a block to be able to throw the checked exception that is caught behind it
+        # javac wants a block to be able to throw the checked exception that is caught after it
         made = f"try {self.block(2, self.throw_checked) if CHECKED in catches else self.block(2)}"
         self.may_throw = outer
         caught = f"caught{self.nesting}"
@@ -329,7 +329,7 @@ class Body:
         return made
 
     def catches(self):
-        """Classes to catch, none of them behind one that is above it."""
+        """Classes to catch, none of them after one that is above it."""
         chosen = self.random.sample(CAUGHT, self.random.randint(1, 2))
         if len(chosen) == 2 and chosen[0] in ("Throwable", "Exception", "RuntimeException"):
             chosen.reverse()
@@ -403,7 +403,7 @@ class Program:
         return f"public static void main(String[] args) throws {CHECKED} {{ {inner} {last} }}"
 
     def first(self, body):
-        """A statement of `main`; most go on behind what they throw."""
+        """A statement of `main`; most go on after what they throw."""
         if self.random.random() < 0.05:
             return body.statement()
         return f"try {body.block(2)} catch (RuntimeException caught) {{ System.out.println(\"caught\"); }}"

@@ -5,9 +5,9 @@ def _main(body):
     return "class Main {\n    static void main(String[] args) {\n" + body + "    }\n}\n"
 
 
-def _filled(most, before, one, behind):
+def _filled(most, before, one, after):
     """`one(i)` for i = 0, 1, .. between two texts, as often as the bytes allow."""
-    parts, size, i = [before], len(before) + len(behind), 0
+    parts, size, i = [before], len(before) + len(after), 0
     while True:
         part = one(i)
         if size + len(part) > most:
@@ -15,13 +15,13 @@ def _filled(most, before, one, behind):
         parts.append(part)
         size += len(part)
         i += 1
-    parts.append(behind)
+    parts.append(after)
     return "".join(parts)
 
 
 def _in_main(most, start, one):
-    before, behind = _main(start + "@").split("@")
-    return _filled(most, before, one, behind)
+    before, after = _main(start + "@").split("@")
+    return _filled(most, before, one, after)
 
 
 def statements(most):

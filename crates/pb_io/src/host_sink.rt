@@ -49,3 +49,24 @@ impl<W: Write + Drop> Sink for HostSink<W> {
         counted(&mut self.faults, outcome)
     }
 }
+
+// Only what no other crate can see: the count of faults. The other tests stand in machine_tests.
+#[cfg(test)]
+mod tests {
+    use super::*;
+    use crate::put_all;
+    use std::test::Fail;
+
+    #[test]
+    fn only_faults_are_counted(rt: HostRuntime) -> Result<(), Fail> {
+        let mut bytes = [0; 4];
+        let mut sink = HostSink::new(bytes.as_mut_slice());
+        assert!(rt; put_all(&mut sink, b"ab").is_ok());
+        assert!(rt; sink.flush().is_ok());
+        assert_eq!(rt; sink.faults, 0);
+        // There is room for two more, and then a write takes nothing.
+        assert!(rt; put_all(&mut sink, b"cde").is_err());
+        assert_eq!(rt; sink.faults, 1);
+        Ok(())
+    }
+}

@@ -10,13 +10,13 @@ use Rattle.core_tree.specs.declared.program.Method.{Method}
 use Rattle.core_tree.specs.declared.program.Program.{Program}
 use Rattle.heap_arena.specs.declared.cell.Cell.TheVariants as value
 use Rattle.heap_arena.specs.declared.kind.Kind.TheVariants as kind
-use Rattle.heap_arena.specs.Heap.{Heap, Value, default_of, cell_count, most_cells, cell_at}
+use Rattle.heap_arena.specs.Heap.{Heap, Value, default_of, cell_count, most_cells, cell_at, class_at}
 use Rattle.relation_bounds.specs.declared.journal.Entry.{Entry}
 use Rattle.evaluation.specs.declared.outcome.Outcome.{Outcome}
 use Rattle.evaluation.specs.declared.outcome.Outcome.TheVariants as outcome
 use Rattle.evaluation.specs.World.{World, Answer, Run, gives}
 use Rattle.evaluation.specs.Values.{most_units}
-use Rattle.evaluation.specs.Objects.{class_at, message_place}
+use Rattle.evaluation.specs.Objects.{message_place}
 use Rattle.evaluation.specs.Calls.{block}
 use Rattle.evaluation.specs.Execute.{meaning}
 

@@ -38,7 +38,7 @@ shapes_of_written h p at v = cases (slice_get h p) refl
 pub begins_written : (h : Heap) (p at : ℕ) (v : Value) → Begins h (written h p at v)
 begins_written h p at v = begins_itself h ∙ ap (take (length h)) (sym (shapes_of_written h p at v))
 
--- a heap begins the one with a new object behind the others
+-- a heap begins the one with a new object after the others
 pub begins_made : (h : Heap) (o : Object ℕ) → Begins h (h ++ o ∷ [])
 begins_made h o =
     begins_itself h ∙ (sym (take-append-le (length h) (map shape_of h) (map shape_of (o ∷ [])) (omega (arith, length-map h shape_of)))

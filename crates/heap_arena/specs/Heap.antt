@@ -1,5 +1,5 @@
 -- What a heap is, and how it changes.
-use Rattle.std.specs.Prelude.{◌≡◌, ℕ, pos, ◌+◌, ◌<◌, false, List, [], ◌∷◌, ◌++◌, length, map, replicate, sum_by, Option, Some, option_map, option_and_then, slice_get, slice_set}
+use Rattle.std.specs.Prelude.{◌≡◌, ℕ, pos, ◌+◌, ◌<◌, false, List, [], ◌∷◌, ◌++◌, length, map, replicate, sum_by, Option, Some, None, option_map, option_and_then, slice_get, slice_set}
 use Rattle.std.specs.Option.{option_map_or}
 use Rattle.core_tree.specs.declared.ty.Ty.{Ty, out-Ty}
 use Rattle.core_tree.specs.declared.ty.Ty.TheOpen.{Ty-F}
@@ -42,12 +42,12 @@ abbrev pub defaults : List (List Ty) → Kind → ℕ → List Value
 defaults field_types (Instance c) n = option_map_or (map default_of) (slice_get field_types c) []
 defaults field_types (Array t) n = replicate n (default_of t)
 
--- the class is there and has so many fields; an array may have any number of elements
+-- the class is there and has that many fields; an array may have any number of elements
 abbrev pub FitsKind : List (List Ty) → Kind → ℕ → Type 0
 FitsKind field_types (Instance c) n = option_map length (slice_get field_types c) ≡ Some n
 FitsKind field_types (Array t) n = Unit {0}
 
--- the heap with a new object behind the others
+-- the heap with a new object after the others
 abbrev pub made : List (List Ty) → Heap → Kind → ℕ → Heap
 made field_types h kind n = h ++ record { kind = kind; cells = defaults field_types kind n } ∷ []
 
@@ -64,6 +64,16 @@ with_cell object at v = record object { cells = slice_set object.cells at v }
 -- the heap with another value at a place of the object at a position
 abbrev pub written : Heap → ℕ → ℕ → Value → Heap
 written h p at v = option_map_or (λ object. slice_set h p (with_cell object at v)) (slice_get h p) h
+
+-- ---- kinds
+
+-- the kind of the object at a position
+abbrev pub kind_at : Heap → ℕ → Option Kind
+kind_at h p = option_map (λ object. object.kind) (slice_get h p)
+
+-- the class of the instance at a position
+abbrev pub class_at : Heap → ℕ → Option ℕ
+class_at h p = option_and_then (λ kind. elim kind [ Instance c ↦ Some c | Array t ↦ None ]) (kind_at h p)
 
 -- ---- references
 

@@ -1,4 +1,5 @@
 pub mod Heap
 pub mod Marks
+pub mod State
 pub mod Reach
 pub mod Changes

@@ -1,5 +1,5 @@
 -- What holds of a heap and of the heaps that are marked, the newest mark first.
-use Rattle.std.specs.Prelude.{◌≡◌, ℕ, suc, ◌<◌, ◌≤◌, List, [], ◌∷◌, length, map, take, All, Some, slice_get}
+use Rattle.std.specs.Prelude.{◌≡◌, ℕ, suc, ◌≤◌, List, [], ◌∷◌, length, map, take, All, Some, slice_get}
 use Rattle.heap_arena.specs.declared.kind.Kind.{Kind}
 use Rattle.heap_arena.specs.declared.object.Object.{Object}
 use Rattle.heap_arena.specs.Heap.{Heap, RefersWithin, cell_count, most_cells}
@@ -23,7 +23,8 @@ Begins m h = map shape_of m ≡ take (length m) (map shape_of h)
 
 -- each mark begins the next newer one, and the newest begins the heap of now
 abbrev pub AreNested : Heap → List Heap → Type 0
-AreNested now marks = (k : ℕ) (m h : Heap) → slice_get (now ∷ marks) (suc k) ≡ Some m → slice_get (now ∷ marks) k ≡ Some h → Begins m h
+AreNested now marks =
+    (k : ℕ) (m h : Heap) → slice_get (now ∷ marks) (suc k) ≡ Some m → slice_get (now ∷ marks) k ≡ Some h → Begins m h
 
 -- each reference in the heap is to an object of the heap
 abbrev pub IsClosed : Heap → Type 0
@@ -40,7 +41,3 @@ pub record IsSound (now : Heap) (marks : List Heap) : Type 0 where
   pub closed : All IsClosed (now ∷ marks)
   -- each of these heaps has at most 16,777,216 cells
   pub few_cells : All HasFewCells (now ∷ marks)
-
--- an object that is there in the heap before and in the heap after has the same position in both
-abbrev pub KeepsPositions : {R : Type 0} → (R → ℕ) → (R → ℕ) → Heap → Heap → Type 0
-KeepsPositions {R} before after h next = (o : R) → before o < length h → before o < length next → after o ≡ before o

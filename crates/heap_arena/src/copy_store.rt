@@ -1,6 +1,7 @@
-ghost use Rattle.std.specs.Prelude.{◌≡◌, ◌<◌, ◌≤◌, [], ◌∷◌, length, map, replicate, IfOk, IsOk, IsSome};
-ghost use Rattle.heap_arena.specs.Heap.{cell_at, default_of, defaults, field_types_of, written, FitsKind, RefersWithin};
+ghost use Rattle.std.specs.Prelude.{◌≡◌, length, map, replicate, IfOk, IsOk, IsSome};
+ghost use Rattle.heap_arena.specs.Heap.{cell_at, default_of, defaults, field_types_of, FitsKind, RefersWithin};
 ghost use Rattle.heap_arena.specs.Marks.{IsSound};
+ghost use Rattle.heap_arena.specs.State.{after_write, new_state};
 
 use crate::object_list::ObjectList;
 use crate::stack::Stack;
@@ -45,7 +46,7 @@ fn field_defaults(alloc: Global, types: &[Ty]) -> Result<Items<Cell<ObjRef>>, Ou
     Ok(Items::from_vec(cells))
 }
 
-// The values with which so many elements of a type begin.
+// The values with which that many elements of a type begin.
 fn element_defaults(alloc: Global, ty: &Ty, count: u32) -> Result<Items<Cell<ObjRef>>, OutOfMemory>
     ensures { IfOk result (λ cells. cells ≡ replicate count (default_of ty.now)) }
 {
@@ -81,10 +82,7 @@ fn types_of_program(alloc: Global, program: &Program) -> Result<Items<Items<Ty>>
 impl CopyStore {
     /// A store with no object and no mark, for the classes of a program.
     pub fn new(alloc: Global, program: &Program) -> Result<CopyStore, OutOfMemory>
-        ensures now { IfOk result (λ store. ⟦<CopyStore as Store>⟧.now store ≡ []) }
-        ensures marks { IfOk result (λ store. ⟦<CopyStore as Store>⟧.marks store ≡ []) }
-        ensures field_types { IfOk result (λ store.
-            ⟦<CopyStore as Store>⟧.field_types store ≡ field_types_of program.now) }
+        ensures { IfOk result (λ store. ⟦<CopyStore as Store>⟧.state store ≡ new_state program.now) }
     {
         Ok(CopyStore {
             heap: ObjectList::new(alloc),
@@ -94,7 +92,7 @@ impl CopyStore {
         })
     }
 
-    // The values with which an object of this kind, with so many cells, begins.
+    // The values with which an object of this kind, with that many cells, begins.
     fn defaults(&self, kind: &Kind, cells: u32) -> Result<Items<Cell<ObjRef>>, OutOfMemory>
         requires { FitsKind self.now.field_types kind.now cells }
         ensures { IfOk result (λ values. values ≡ defaults self.now.field_types kind.now cells) }
@@ -114,11 +112,7 @@ impl CopyStore {
 impl Store for CopyStore {
     type Obj = ObjRef;
 
-    ghost now = { λ store. store.heap };
-
-    ghost marks = { λ store. store.marks };
-
-    ghost field_types = { λ store. store.field_types };
+    ghost state = { λ store. record { now = store.heap; marks = store.marks; field_types = store.field_types } };
 
     ghost position_of = { λ store object. object };
 
@@ -137,12 +131,11 @@ impl Store for CopyStore {
     }
 
     fn write(&mut self, o: ObjRef, at: u32, v: Cell<ObjRef>) -> Result<(), OutOfMemory>
-        requires cell { IsSome (cell_at (⟦<CopyStore as Store>⟧.now self.old) o at) }
-        requires value { RefersWithin (length (⟦<CopyStore as Store>⟧.now self.old)) v }
+        requires cell { IsSome (cell_at (⟦<CopyStore as Store>⟧.state self.old).now o at) }
+        requires value { RefersWithin (length (⟦<CopyStore as Store>⟧.state self.old).now) v }
         ensures no_memory { IsOk result }
-        ensures written { ⟦<CopyStore as Store>⟧.now self.new ≡ written (⟦<CopyStore as Store>⟧.now self.old) o at v }
-        ensures marks { ⟦<CopyStore as Store>⟧.marks self.new ≡ ⟦<CopyStore as Store>⟧.marks self.old }
-        ensures field_types { ⟦<CopyStore as Store>⟧.field_types self.new ≡ ⟦<CopyStore as Store>⟧.field_types self.old }
+        ensures written { ⟦<CopyStore as Store>⟧.state self.new ≡
+            after_write (⟦<CopyStore as Store>⟧.state self.old) o at v }
     {
         self.heap.write(o.position, at, v);
         Ok(())

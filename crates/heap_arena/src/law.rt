@@ -1,11 +1,12 @@
 ghost use Rattle.std.specs.Prelude.{◌≡◌, IsSome, IsTrue, OnOk, false};
 ghost use Rattle.heap_arena.specs.Heap.{cell_at};
 ghost use Rattle.heap_arena.specs.Changes.{changed, nested_change};
+ghost use Rattle.heap_arena.specs.State.{ChangesHeap};
 
 use crate::{Cell, Kind, MakeError, Store};
 use core_tree::Ty;
 
-/// Writes a number at a place of an object, and makes an array of so many ints.
+/// Writes a number at a place of an object, and makes an array of that many ints.
 pub fn change<S: Store>(
     store: &mut S,
     o: S::Obj,
@@ -13,12 +14,11 @@ pub fn change<S: Store>(
     n: i32,
     size: u32,
 ) -> Result<(), MakeError>
-    requires cell { IsSome (cell_at (S.now store.old) (S.position_of store.old o) at) }
-    ensures changed { OnOk result (S.now store.new ≡
-        changed (S.field_types store.old) (S.now store.old) (S.position_of store.old o) at n size) }
-    ensures marks { S.marks store.new ≡ S.marks store.old }
-    ensures field_types { S.field_types store.new ≡ S.field_types store.old }
-    ensures cell { IsSome (cell_at (S.now store.new) (S.position_of store.new o) at) }
+    requires cell { IsSome (cell_at (S.state store.old).now (S.position_of store.old o) at) }
+    ensures changed { OnOk result (S.state store.new ≡
+        changed (S.state store.old) (S.position_of store.old o) at n size) }
+    ensures others { ChangesHeap (S.state store.old) (S.state store.new) }
+    ensures cell { IsSome (cell_at (S.state store.new).now (S.position_of store.new o) at) }
     ensures position { S.position_of store.new o ≡ S.position_of store.old o }
 {
     store.write(o, at, Cell::Int(n))?;
@@ -26,7 +26,7 @@ pub fn change<S: Store>(
     Ok(())
 }
 
-/// Makes that change over a mark, and undoes it: the heap and the marks are as before, whatever came in between.
+/// Makes that change over a mark, and undoes it: the store is as before, whatever came in between.
 pub fn change_and_undo<S: Store>(
     store: &mut S,
     o: S::Obj,
@@ -34,10 +34,8 @@ pub fn change_and_undo<S: Store>(
     n: i32,
     size: u32,
 ) -> Result<(), MakeError>
-    requires cell { IsSome (cell_at (S.now store.old) (S.position_of store.old o) at) }
-    ensures now { S.now store.new ≡ S.now store.old }
-    ensures marks { S.marks store.new ≡ S.marks store.old }
-    ensures field_types { S.field_types store.new ≡ S.field_types store.old }
+    requires cell { IsSome (cell_at (S.state store.old).now (S.position_of store.old o) at) }
+    ensures unchanged { S.state store.new ≡ S.state store.old }
     ensures position { S.position_of store.new o ≡ S.position_of store.old o }
 {
     store.mark()?;
@@ -54,12 +52,11 @@ pub fn change_and_keep<S: Store>(
     n: i32,
     size: u32,
 ) -> Result<(), MakeError>
-    requires cell { IsSome (cell_at (S.now store.old) (S.position_of store.old o) at) }
-    ensures changed { OnOk result (S.now store.new ≡
-        changed (S.field_types store.old) (S.now store.old) (S.position_of store.old o) at n size) }
-    ensures marks { S.marks store.new ≡ S.marks store.old }
-    ensures field_types { S.field_types store.new ≡ S.field_types store.old }
-    ensures cell { IsSome (cell_at (S.now store.new) (S.position_of store.new o) at) }
+    requires cell { IsSome (cell_at (S.state store.old).now (S.position_of store.old o) at) }
+    ensures changed { OnOk result (S.state store.new ≡
+        changed (S.state store.old) (S.position_of store.old o) at n size) }
+    ensures others { ChangesHeap (S.state store.old) (S.state store.new) }
+    ensures cell { IsSome (cell_at (S.state store.new).now (S.position_of store.new o) at) }
     ensures position { S.position_of store.new o ≡ S.position_of store.old o }
 {
     store.mark()?;
@@ -77,11 +74,11 @@ pub fn nest<S: Store>(
     size: u32,
     keeps: bool,
 ) -> Result<(), MakeError>
-    requires cell { IsSome (cell_at (S.now store.old) (S.position_of store.old o) at) }
-    ensures kept { OnOk result (IsTrue keeps → S.now store.new ≡
-        nested_change (S.field_types store.old) (S.now store.old) (S.position_of store.old o) at size) }
-    ensures undone { keeps ≡ false → S.now store.new ≡ S.now store.old }
-    ensures marks { S.marks store.new ≡ S.marks store.old }
+    requires cell { IsSome (cell_at (S.state store.old).now (S.position_of store.old o) at) }
+    ensures kept { OnOk result (IsTrue keeps → S.state store.new ≡
+        nested_change (S.state store.old) (S.position_of store.old o) at size) }
+    ensures undone { keeps ≡ false → S.state store.new ≡ S.state store.old }
+    ensures others { ChangesHeap (S.state store.old) (S.state store.new) }
     ensures position { S.position_of store.new o ≡ S.position_of store.old o }
 {
     store.mark()?;
@@ -101,11 +98,11 @@ fn change_three_times<S: Store>(
     at: u32,
     size: u32,
 ) -> Result<(), MakeError>
-    requires cell { IsSome (cell_at (S.now store.old) (S.position_of store.old o) at) }
-    ensures changed { OnOk result (S.now store.new ≡
-        nested_change (S.field_types store.old) (S.now store.old) (S.position_of store.old o) at size) }
-    ensures marks { S.marks store.new ≡ S.marks store.old }
-    ensures cell { IsSome (cell_at (S.now store.new) (S.position_of store.new o) at) }
+    requires cell { IsSome (cell_at (S.state store.old).now (S.position_of store.old o) at) }
+    ensures changed { OnOk result (S.state store.new ≡
+        nested_change (S.state store.old) (S.position_of store.old o) at size) }
+    ensures others { ChangesHeap (S.state store.old) (S.state store.new) }
+    ensures cell { IsSome (cell_at (S.state store.new).now (S.position_of store.new o) at) }
     ensures position { S.position_of store.new o ≡ S.position_of store.old o }
 {
     change(store, o, at, 1, size)?;

@@ -8,7 +8,7 @@ use heap_arena::Store;
 
 /// Whether the object at a position may be the value of a variable of the type; false where there is no such object.
 pub fn object_fits<S: Store>(program: &Program, store: &S, o: u32, to: &Ty) -> bool
-    ensures { result ≡ object_fits program.now (S.now store.now) o to.now }
+    ensures { result ≡ object_fits program.now (S.state store.now).now o to.now }
 {
     match kind_at(store, o) {
         Some(kind) => kind_fits(&program.classes, kind, to),

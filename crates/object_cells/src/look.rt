@@ -1,13 +1,14 @@
 ghost use Rattle.std.specs.Prelude.{◌≡◌};
 ghost use Rattle.std.specs.Option.{option_copied};
-ghost use Rattle.evaluation.specs.Objects.{class_at, elements_at, elements_count, kind_at};
+ghost use Rattle.heap_arena.specs.Heap.{class_at, kind_at};
+ghost use Rattle.evaluation.specs.Objects.{elements_at, elements_count};
 
 use core_tree::Ty;
 use heap_arena::{Kind, Store};
 
 /// The kind of the object at a position; none where there is no such object.
 pub fn kind_at<S: Store>(store: &S, o: u32) -> Option<&Kind>
-    ensures { option_copied result ≡ kind_at (S.now store.now) o }
+    ensures { option_copied result ≡ kind_at (S.state store.now).now o }
 {
     if o < store.len() {
         Some(store.kind_of(store.at(o)))
@@ -18,7 +19,7 @@ pub fn kind_at<S: Store>(store: &S, o: u32) -> Option<&Kind>
 
 /// The class of the instance at a position; none where there is no such object, or it is an array.
 pub fn class_at<S: Store>(store: &S, o: u32) -> Option<u32>
-    ensures { result ≡ class_at (S.now store.now) o }
+    ensures { result ≡ class_at (S.state store.now).now o }
 {
     match kind_at(store, o)? {
         Kind::Instance(class) => Some(*class),
@@ -28,7 +29,7 @@ pub fn class_at<S: Store>(store: &S, o: u32) -> Option<u32>
 
 /// The type of the elements of the array at a position; none where there is no such object, or it is an instance.
 pub fn elements_at<S: Store>(store: &S, o: u32) -> Option<&Ty>
-    ensures { option_copied result ≡ elements_at (S.now store.now) o }
+    ensures { option_copied result ≡ elements_at (S.state store.now).now o }
 {
     match kind_at(store, o)? {
         Kind::Instance(_) => None,
@@ -38,7 +39,7 @@ pub fn elements_at<S: Store>(store: &S, o: u32) -> Option<&Ty>
 
 /// How many elements the array at a position has; none where there is no such object, or it is an instance.
 pub fn elements_count<S: Store>(store: &S, o: u32) -> Option<u32>
-    ensures { result ≡ elements_count (S.now store.now) o }
+    ensures { result ≡ elements_count (S.state store.now).now o }
 {
     match kind_at(store, o)? {
         Kind::Instance(_) => None,

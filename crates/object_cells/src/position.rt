@@ -5,7 +5,7 @@ use heap_arena::{Cell, Store};
 
 // A value of the store, with the position of the object that it refers to.
 pub fn with_position<S: Store>(store: &S, v: Cell<S::Obj>) -> Cell<u32>
-    requires { RefersWithin (length (S.now store.now)) (shown (S.position_of store.now) v) }
+    requires { RefersWithin (length (S.state store.now).now) (shown (S.position_of store.now) v) }
     ensures { result ≡ shown (S.position_of store.now) v }
 {
     match v {
@@ -19,7 +19,7 @@ pub fn with_position<S: Store>(store: &S, v: Cell<S::Obj>) -> Cell<u32>
 
 // A value of positions, with the object of the store that it refers to.
 pub fn with_object<S: Store>(store: &S, v: Cell<u32>) -> Cell<S::Obj>
-    requires { RefersWithin (length (S.now store.now)) v }
+    requires { RefersWithin (length (S.state store.now).now) v }
     ensures { shown (S.position_of store.now) result ≡ v }
 {
     match v {

@@ -7,11 +7,11 @@ use Rattle.core_tree.specs.declared.expr.Expr.{Expr}
 use Rattle.core_tree.specs.declared.stmt.Stmt.{Stmt}
 use Rattle.core_tree.specs.declared.program.Program.{Program}
 use Rattle.core_tree.specs.Typing.{chosen_number}
-use Rattle.heap_arena.specs.Heap.{Value, default_of}
+use Rattle.heap_arena.specs.Heap.{Value, default_of, class_at}
 use Rattle.evaluation.specs.declared.outcome.Outcome.{Outcome}
 use Rattle.evaluation.specs.declared.outcome.Outcome.TheVariants as outcome
 use Rattle.evaluation.specs.World.{World, Answer, Run, gives}
-use Rattle.evaluation.specs.Objects.{trap, class_at, read_cell, message_place}
+use Rattle.evaluation.specs.Objects.{trap, read_cell, message_place}
 use Rattle.evaluation.specs.Calls.{Parts, most_live, returned, leave, called, block, arguments, run_method, invoke, built_in_message, dispatch_in, dispatch}
 use Rattle.steps_law.specs.Spending.{NoneIfSpent, Leaves, Spends, AllSpend}
 use Rattle.steps_law.proofs.Parts.{takes_spends, if_leaves, if_spends, option_leaves, option_spends, then_value, then_normal}

@@ -10,14 +10,14 @@ use Rattle.core_tree.specs.declared.stmt.Stmt.TheOpen.{Stmt-F}
 use Rattle.core_tree.specs.declared.stmt.Catch.{Catch, out-Catch}
 use Rattle.core_tree.specs.declared.program.Program.{Program}
 use Rattle.heap_arena.specs.declared.cell.Cell.TheVariants as value
-use Rattle.heap_arena.specs.Heap.{Value, default_of}
+use Rattle.heap_arena.specs.Heap.{Value, default_of, class_at}
 use Rattle.evaluation.specs.declared.outcome.Outcome.{Outcome}
 use Rattle.evaluation.specs.declared.outcome.Outcome.TheVariants as outcome
 use Rattle.evaluation.specs.declared.place.Place.{Place}
 use Rattle.evaluation.specs.declared.place.Place.TheVariants as location
 use Rattle.evaluation.specs.World.{World, KeptCall, Answer, Run, gives, ◌>>=◌, ◌>>◌}
 use Rattle.evaluation.specs.Values.{shown, update_value}
-use Rattle.evaluation.specs.Objects.{computed, class_at, write_local, read_place, write_place, with_field, with_element}
+use Rattle.evaluation.specs.Objects.{computed, write_local, read_place, write_place, with_field, with_element}
 use Rattle.evaluation.specs.Calls.{Parts, Loop, block}
 use Rattle.evaluation.specs.Evaluate.{choose}
 use Rattle.evaluation.specs.Execute.{printed, prints, print_value, handler, throw, keeping, finally, with_target, assign, operand, update_place, tested, after_body, body_of, turn, handled, catch_object, catching, finally_if, stmt_node}

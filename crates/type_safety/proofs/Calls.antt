@@ -18,11 +18,11 @@ use Rattle.core_tree.specs.Typing.{Scope, PartType, fits as fits_part, all_fit, 
 use Rattle.core_tree.specs.WellTyped.{IsWellTyped, is_method, method_scope}
 use Rattle.heap_arena.specs.declared.cell.Cell.TheVariants as value
 use Rattle.heap_arena.specs.declared.kind.Kind.TheVariants as kind
-use Rattle.heap_arena.specs.Heap.{Heap, Value, default_of}
+use Rattle.heap_arena.specs.Heap.{Heap, Value, default_of, kind_at, class_at}
 use Rattle.evaluation.specs.declared.outcome.Outcome.{Outcome}
 use Rattle.evaluation.specs.declared.outcome.Outcome.TheVariants as outcome
 use Rattle.evaluation.specs.World.{World, Run, gives}
-use Rattle.evaluation.specs.Objects.{kind_at, class_at, object_fits, trap, message_place}
+use Rattle.evaluation.specs.Objects.{object_fits, trap, message_place}
 use Rattle.evaluation.specs.Calls.{Parts, most_live, returned, leave, called, block, arguments, run_method, invoke, dispatch_in, dispatch}
 use Rattle.type_safety.specs.Fits.{FitsType, FitEach, FitsWorld, FitsScope, FitsThis, HasGrown}
 use Rattle.type_safety.specs.Ends.{Wanted, Meets, Follows, EndsAs, EndsIn, AreSafe}

@@ -17,11 +17,11 @@ use Rattle.core_tree.specs.Types.{line_within, is_subclass, is_assignable}
 use Rattle.core_tree.specs.Typing.{Scope, fits as fits_part, all_fit, type_of, is_typed_body}
 use Rattle.core_tree.specs.WellTyped.{IsWellTyped, is_field, is_maker, is_parent, superclass, maker_scope, initialiser_scope}
 use Rattle.heap_arena.specs.declared.kind.Kind.TheVariants as kind
-use Rattle.heap_arena.specs.Heap.{Heap, Value}
+use Rattle.heap_arena.specs.Heap.{Heap, Value, kind_at}
 use Rattle.evaluation.specs.declared.outcome.Outcome.{Outcome}
 use Rattle.evaluation.specs.declared.outcome.Outcome.TheVariants as outcome
 use Rattle.evaluation.specs.World.{World, Run, gives, ◌>>=◌, ◌>>◌}
-use Rattle.evaluation.specs.Objects.{kind_at, write_cell, message_place}
+use Rattle.evaluation.specs.Objects.{write_cell, message_place}
 use Rattle.evaluation.specs.Calls.{Parts, finished, called, block, arguments, initialise, initialise_class, build_parent, build, construct}
 use Rattle.type_safety.specs.Fits.{FitsType, FitsWorld, FitsScope, types_of_fields}
 use Rattle.type_safety.specs.Ends.{Wanted, Meets, EndsAs, EndsIn, AreSafe}

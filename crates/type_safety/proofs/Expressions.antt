@@ -25,12 +25,12 @@ use Rattle.core_tree.specs.Typing as typing
 use Rattle.core_tree.specs.WellTyped.{IsWellTyped, is_maker}
 use Rattle.heap_arena.specs.declared.cell.Cell.TheVariants as value
 use Rattle.heap_arena.specs.declared.kind.Kind.TheVariants as kind
-use Rattle.heap_arena.specs.Heap.{Heap, Value}
+use Rattle.heap_arena.specs.Heap.{Heap, Value, kind_at}
 use Rattle.evaluation.specs.declared.outcome.Outcome.{Outcome}
 use Rattle.evaluation.specs.declared.outcome.Outcome.TheVariants as outcome
 use Rattle.evaluation.specs.World.{World, Answer, Run, gives, ◌>>=◌, ◌>>◌}
 use Rattle.evaluation.specs.Values.{literal, unary_value, binary_value, concatenated, text_length, text_equals}
-use Rattle.evaluation.specs.Objects.{make_instance, computed, read_local, read_place, write_cell, with_field, with_element, array_length, new_array, cast, is_instance, message_place, kind_at}
+use Rattle.evaluation.specs.Objects.{make_instance, computed, read_local, read_place, write_cell, with_field, with_element, array_length, new_array, cast, is_instance, message_place}
 use Rattle.evaluation.specs.Calls.{Parts, arguments, dispatch, construct}
 use Rattle.evaluation.specs.Evaluate.{this_value, choose, new_object, new_built_in, expr_node}
 use Rattle.type_safety.specs.Fits.{FitsType, FitsWorld, FitsScope, FitsThis, has_null, types_of_fields}

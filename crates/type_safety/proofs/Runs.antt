@@ -19,13 +19,13 @@ use Rattle.core_tree.specs.Typing.{is_throwable, is_typed_body}
 use Rattle.core_tree.specs.WellTyped.{IsWellTyped, same_types, is_method, is_main, method_scope}
 use Rattle.heap_arena.specs.declared.cell.Cell.TheVariants as value
 use Rattle.heap_arena.specs.declared.kind.Kind.TheVariants as kind
-use Rattle.heap_arena.specs.Heap.{Heap, cell_count, most_cells, cell_at}
+use Rattle.heap_arena.specs.Heap.{Heap, cell_count, most_cells, cell_at, class_at}
 use Rattle.relation_bounds.specs.declared.journal.Entry.{Entry}
 use Rattle.evaluation.specs.declared.outcome.Outcome.{Outcome}
 use Rattle.evaluation.specs.declared.outcome.Outcome.TheVariants as outcome
 use Rattle.evaluation.specs.World.{World, Answer, gives}
 use Rattle.evaluation.specs.Values.{most_units}
-use Rattle.evaluation.specs.Objects.{class_at, object_fits, message_place}
+use Rattle.evaluation.specs.Objects.{object_fits, message_place}
 use Rattle.evaluation.specs.Calls.{block}
 use Rattle.evaluation.specs.Evaluate.{expr_node}
 use Rattle.evaluation.specs.Execute.{stmt_node, meaning}

@@ -26,14 +26,14 @@ use Rattle.core_tree.specs.Typing as typing
 use Rattle.core_tree.specs.WellTyped.{IsWellTyped}
 use Rattle.heap_arena.specs.declared.cell.Cell.TheVariants as value
 use Rattle.heap_arena.specs.declared.kind.Kind.TheVariants as kind
-use Rattle.heap_arena.specs.Heap.{Heap, Value, default_of}
+use Rattle.heap_arena.specs.Heap.{Heap, Value, default_of, class_at, kind_at}
 use Rattle.evaluation.specs.declared.outcome.Outcome.{Outcome}
 use Rattle.evaluation.specs.declared.outcome.Outcome.TheVariants as outcome
 use Rattle.evaluation.specs.declared.place.Place.{Place}
 use Rattle.evaluation.specs.declared.place.Place.TheVariants as location
 use Rattle.evaluation.specs.World.{World, KeptCall, Answer, Run, gives, after, continued, ◌>>=◌, ◌>>◌}
 use Rattle.evaluation.specs.Values.{update_value}
-use Rattle.evaluation.specs.Objects.{trap, computed, class_at, kind_at, write_local, read_place, write_place, with_field, with_element}
+use Rattle.evaluation.specs.Objects.{trap, computed, write_local, read_place, write_place, with_field, with_element}
 use Rattle.evaluation.specs.Calls.{Parts, Loop, block}
 use Rattle.evaluation.specs.Evaluate.{choose}
 use Rattle.evaluation.specs.Execute.{printed, prints, print_value, handler, throw, keeping, finally, with_target, assign, operand, update_place, tested, after_body, body_of, turn, handled, catch_object, catching, finally_if, stmt_node}

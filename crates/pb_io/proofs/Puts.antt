@@ -1,10 +1,10 @@
--- Appending to a sink, counts that don't fall, and bytes that are put in several steps.
-use Rattle.std.proofs.Common.{◌≡◌, ℕ, ◌≤◌, List, [], ◌++◌, Option, Some, None, Result, Ok, Err, refl, sym, ◌∙◌, ap, append_assoc, arith}
+-- Appending to a sink, and bytes that are put in several steps.
+use Rattle.std.proofs.Common.{◌≡◌, ℕ, List, [], ◌++◌, Option, Some, None, Result, Ok, Err, refl, sym, ◌∙◌, ap, append_assoc, arith}
 use Rattle.std.proofs.lemmas.Grind.{common_steps}
 use Rattle.pb_io.specs.declared.sink.PutError.{PutError}
 use Rattle.pb_io.specs.declared.sink.PutError.TheVariants as put
-use Rattle.pb_io.specs.Faults.{Rose}
 use Rattle.pb_io.specs.Sink.{SinkState, with_bytes, NoFewer, Puts}
+use Rattle.pb_io.proofs.Counts.{Counts-none, Counts-then, Counts-stop}
 
 -- appending nothing leaves what is written
 pub with_bytes-nil : (written : Option (List ℕ)) → with_bytes written [] ≡ written
@@ -26,22 +26,15 @@ NoFewer-trans (Some a) None c p q = absurd p
 NoFewer-trans (Some a) (Some b) None p q = absurd q
 NoFewer-trans (Some a) (Some b) (Some c) p q = omega arith
 
--- a count that rose has risen also at a later moment
-pub Rose-later : (a b c : ℕ) → Rose a b → b ≤ c → Rose a c
-Rose-later a b c rose le = omega arith
-
--- a count that rose has risen also since an earlier moment
-pub Rose-earlier : (a b c : ℕ) → a ≤ b → Rose b c → Rose a c
-Rose-earlier a b c le rose = omega arith
-
 -- putting nothing changes nothing
 pub Puts-nil : {T : Type 0} (sink : SinkState) (value : T) → Puts sink sink [] (Ok value)
 Puts-nil sink value = record {
   ok = sym (with_bytes-nil sink.written);
   err = tt;
   flushed = NoFewer-refl sink.flushed;
-  later = omega arith;
-  cause = λ is_error. cc;
+  flushes = refl;
+  faults = Counts-none put.WriteFault sink.faults value;
+  wants = Counts-none put.OutOfMemory sink.wants value;
 }
 
 -- all of x was put, and putting y came out so: so came out putting both
@@ -50,8 +43,9 @@ Puts-append a b c x y value (Ok done) first second = record {
   ok = second.ok ∙ ap (λ w. with_bytes w y) first.ok ∙ with_bytes-append a.written x y;
   err = tt;
   flushed = NoFewer-trans a.flushed b.flushed c.flushed first.flushed second.flushed;
-  later = omega arith;
-  cause = λ is_error. cc;
+  flushes = second.flushes ∙ first.flushes;
+  faults = Counts-then put.WriteFault a.faults b.faults c.faults value (Ok done) first.faults second.faults;
+  wants = Counts-then put.OutOfMemory a.wants b.wants c.wants value (Ok done) first.wants second.wants;
 }
 Puts-append a b c x y value (Err error) first second =
     let part = second.err.part in
@@ -64,11 +58,12 @@ Puts-append a b c x y value (Err error) first second =
         written = second.err.written ∙ ap (λ w. with_bytes w part) first.ok ∙ with_bytes-append a.written x part;
       };
       flushed = NoFewer-trans a.flushed b.flushed c.flushed first.flushed second.flushed;
-      later = omega arith;
-      cause = λ is_error. Rose-earlier a.faults b.faults c.faults first.later (second.cause is_error);
+      flushes = second.flushes ∙ first.flushes;
+      faults = Counts-then put.WriteFault a.faults b.faults c.faults value (Err error) first.faults second.faults;
+      wants = Counts-then put.OutOfMemory a.wants b.wants c.wants value (Err error) first.wants second.wants;
     }
 
--- putting x ended by an error: so ends putting x and whatever would come behind it
+-- putting x ended by an error: so ends putting x and whatever would follow it
 pub Puts-stop : {T U : Type 0} (a b : SinkState) (x y : List ℕ) (error : PutError) → Puts a b x {T = T} (Err error) → Puts a b (x ++ y) {T = U} (Err error)
 Puts-stop a b x y error stopped = record {
   ok = tt;
@@ -79,6 +74,7 @@ Puts-stop a b x y error stopped = record {
     written = stopped.err.written;
   };
   flushed = stopped.flushed;
-  later = stopped.later;
-  cause = λ is_error. stopped.cause (let same : error ≡ put.WriteFault = cc in ap Err same);
+  flushes = stopped.flushes;
+  faults = Counts-stop put.WriteFault a.faults b.faults error stopped.faults;
+  wants = Counts-stop put.OutOfMemory a.wants b.wants error stopped.wants;
 }

@@ -1,12 +1,12 @@
 -- Reading the started file piece by piece.
-use Rattle.std.proofs.Common.{append-nil, ◌≡◌, ℕ, ◌+◌, ◌≤◌, true, List, [], ◌++◌, take, drop, length, Option, Some, None, IfSome, refl, sym, ◌∙◌, ap, arith}
+use Rattle.std.proofs.Common.{append-nil, ◌≡◌, ℕ, ◌+◌, ◌≤◌, true, List, [], ◌++◌, take, drop, length, Option, Some, None, IfSome, Result, Ok, Err, OnErr, refl, sym, ◌∙◌, ap, arith}
 use Rattle.std.proofs.lemmas.Grind.{common_steps}
 use Rattle.std.proofs.Math.Seq.{take-add}
 use Rattle.std.proofs.lemmas.List.{take-append-drop}
 use Rattle.std.specs.Option.{option_map}
 use Rattle.pb_io.specs.Files.{FilesState, with_name, Gives}
 
--- the bytes so far are a prefix of the file, and what is behind them is left
+-- the bytes so far are a prefix of the file, and what follows them is left
 pub record ReadsFront (file left : Option (List ℕ)) (bytes : List ℕ) : Type 0 where
   pub front : IfSome file (λ whole. bytes ≡ take (length bytes) whole)
   pub left_is : left ≡ option_map (drop (length bytes)) file
@@ -18,14 +18,14 @@ pub record IsReading (begun now : FilesState) (name bytes : List ℕ) (limit : �
   pub bytes_of : now.bytes_of ≡ begun.bytes_of
   pub reads : ReadsFront (begun.bytes_of name) now.rest bytes
   pub within : length bytes ≤ limit + 1
-  pub later : begun.faults ≤ now.faults
+  pub faults : now.faults ≡ begun.faults
 
 -- at the start nothing is read
 pub ReadsFront-none : (file : Option (List ℕ)) → ReadsFront file file []
 ReadsFront-none None = record { front = tt; left_is = refl }
 ReadsFront-none (Some whole) = record { front = grind (arith, common_steps); left_is = grind (arith, common_steps) }
 
--- a read of n bytes puts them behind those that were read
+-- a read of n bytes puts them after those that were read
 pub ReadsFront-read : (file before now : Option (List ℕ)) (bytes into : List ℕ) (n : ℕ) → n ≤ length into → ReadsFront file before bytes → Gives before now n into → ReadsFront file now (bytes ++ take n into)
 ReadsFront-read None before now bytes into n within so_far gives = record {
   front = tt;
@@ -48,3 +48,8 @@ ReadsFront-end (Some whole) before now bytes into so_far gives =
     let parts : take (length bytes) whole ++ drop (length bytes) whole ≡ whole = take-append-drop (length bytes) whole in
     let front : bytes ++ drop (length bytes) whole ≡ whole = ap (λ b. b ++ drop (length bytes) whole) so_far.front ∙ parts in
     sym (append-nil bytes) ∙ ap (λ r. bytes ++ r) (sym none_left) ∙ front
+
+-- what holds in any case holds of an error
+pub on_err : {T E : Type 0} (result : Result T E) (P : Type 0) → P → OnErr result P
+on_err (Ok value) P p = tt
+on_err (Err error) P p = p

@@ -1,14 +1,14 @@
 -- What files mean, and what a call on them does.
-use Rattle.std.specs.Prelude.{◌≡◌, ◌⊎◌, ℕ, ◌↔◌, Bool, List, [], ◌∷◌, ◌++◌, take, drop, Option, Some, None, Result, Err, IfSome}
+use Rattle.std.specs.Prelude.{◌≡◌, ◌⊎◌, ℕ, ◌+◌, ◌≤◌, ◌↔◌, Bool, false, List, [], ◌∷◌, ◌++◌, take, drop, Option, Some, None, Result, Err, IfSome}
 use Rattle.std.specs.Option.{option_map}
 use Rattle.pb_io.specs.declared.fault.OutsideFault.{OutsideFault}
 use Rattle.pb_io.specs.declared.fault.OutsideFault.TheVariants as fault
 use Rattle.pb_io.specs.declared.files.ReadError.{ReadError}
 use Rattle.pb_io.specs.declared.files.ReadError.TheVariants as error
 
--- what files mean at one moment: the names of which they tell that no file has them; the bytes behind each name, the
--- names started so far and the rest of the started file, each where they tell it; whether a file is started; and the
--- number of faults so far
+-- what files mean at one moment: the names of which they tell that no file has them; the bytes of the file of each
+-- name, the names started so far and the rest of the started file, each where they tell it; whether a file is started;
+-- and how often they failed so far
 pub record FilesState : Type 0 where
   pub lacks : List ℕ → Bool
   pub bytes_of : List ℕ → Option (List ℕ)
@@ -38,3 +38,8 @@ pub record Gives (before now : Option (List ℕ)) (n : ℕ) (into : List ℕ) : 
 abbrev pub StartsOnce : {T : Type 0} → Result T ReadError → Option (List (List ℕ)) → Option (List (List ℕ)) → List ℕ → Type 0
 StartsOnce (Err error.OutOfMemory) before now name = (now ≡ before) ⊎ (now ≡ with_name before name)
 StartsOnce _ before now name = now ≡ with_name before name
+
+-- no more than `limit + 1` bytes of this file are taken, or none is started
+abbrev pub TakesWithin : FilesState → Option (List ℕ) → ℕ → Type 0
+TakesWithin now file limit =
+    (now.is_started ≡ false) ⊎ ((n : ℕ) × (n ≤ limit + 1) × (now.rest ≡ option_map (drop n) file))

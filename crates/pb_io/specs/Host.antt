@@ -3,11 +3,23 @@ use Rattle.std.specs.Prelude.{ℕ, Bool, false, None}
 use Rattle.pb_io.specs.Files.{FilesState}
 use Rattle.pb_io.specs.Sink.{SinkState}
 
--- a stream tells its count of faults alone
-abbrev pub stream_state : ℕ → SinkState
-stream_state faults = record { written = None; flushed = None; faults = faults }
+-- what a stream means at one moment: how often so far it failed, it had no memory, and its flush was called
+pub record StreamState : Type 0 where
+  pub faults : ℕ
+  pub wants : ℕ
+  pub flushes : ℕ
 
--- what the system's files mean at one moment: whether one is started, and the number of faults so far
+-- it tells these counts and nothing else
+abbrev pub stream_state : StreamState → SinkState
+stream_state stream = record {
+  written = None;
+  flushed = None;
+  faults = stream.faults;
+  wants = stream.wants;
+  flushes = stream.flushes;
+}
+
+-- what the system's files mean at one moment: whether one is started, and how often they failed so far
 pub record HostFilesState : Type 0 where
   pub is_started : Bool
   pub faults : ℕ

@@ -21,7 +21,7 @@ abbrev pub bytes_of : List NamedFile → List ℕ → Option (List ℕ)
 bytes_of files name = option_map (λ file. file.bytes) (find (λ file. bytes_eq file.name name) files)
 
 -- what files in memory mean at one moment: the files, the names started so far, the rest of the started file, if one
--- is started, the calls and the number of faults so far
+-- is started, the calls, and how often they failed so far
 pub record MemFilesState : Type 0 where
   pub files : List NamedFile
   pub started : List (List ℕ)
@@ -63,9 +63,10 @@ after_start files name (Err Failed) = record files {
   calls = one_more files.calls;
   faults = raised files.faults;
 }
-after_start files name (Err OutOfMemory) = record files { calls = one_more files.calls }
+after_start files name (Err OutOfMemory) = record files { rest = None; calls = one_more files.calls }
 
 -- the files after a read, by how it came out: each read is counted
 abbrev pub after_read : MemFilesState → Result ℕ OutsideFault → MemFilesState
 after_read files (Ok n) = record files { rest = option_map (drop n) files.rest; calls = one_more files.calls }
-after_read files (Err fault) = record files { calls = one_more files.calls; faults = raised files.faults }
+after_read files (Err Failed) = record files { calls = one_more files.calls; faults = raised files.faults }
+after_read files (Err OutOfMemory) = record files { calls = one_more files.calls }

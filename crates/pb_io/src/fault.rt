@@ -5,7 +5,7 @@ use thiserror::Error;
 /// Why a call to the outside gave nothing.
 #[derive(Clone, Copy, Debug, PartialEq, Eq, Drop, Error)]
 pub enum OutsideFault {
-    /// The outside failed. It comes only where the object's count of faults rose in the call.
+    /// The outside failed. It comes exactly where the object's count of faults rose in the call.
     #[error("the outside failed")]
     Failed,
     /// Memory ran out. It may come at any call.

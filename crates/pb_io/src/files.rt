@@ -1,7 +1,7 @@
 ghost use Rattle.std.specs.Prelude.{◌≡◌, ◌+◌, ◌<◌, ◌≤◌, false, true, length, drop, vec_len, IfOk, IfSome, OnOk, OnErr, IsErrOf};
 ghost use Rattle.std.specs.Option.{option_map};
-ghost use Rattle.pb_io.specs.Faults.{HasCause, Rose};
-ghost use Rattle.pb_io.specs.Files.{FilesState, names_after, Gives, StartsOnce};
+ghost use Rattle.pb_io.specs.Faults.{Counts};
+ghost use Rattle.pb_io.specs.Files.{FilesState, names_after, Gives, StartsOnce, TakesWithin};
 
 use crate::OutsideFault;
 use std::alloc::{AllocError, Global};
@@ -9,19 +9,20 @@ use thiserror::Error;
 
 /// Named files, read one at a time from their beginning to their end.
 pub trait Files {
-    /// The names that it tells no file has; the bytes behind each name, the names started and the rest of the started
-    /// file, where the object tells it; whether a file is started; and the count of faults.
+    /// The names that it tells no file has; the bytes of the file of each name, the names started and the rest of the
+    /// started file, where the object tells it; whether a file is started; and the count of the calls that failed.
     ghost state: { Self → FilesState };
 
-    /// Begins the named file, and leaves any earlier one.
+    /// Begins the named file, and leaves any earlier one. After an error no file is started.
     fn start(&mut self, name: &str) -> Result<(), OutsideFault>
         ensures begun { OnOk result ((state self.new).is_started ≡ true) }
+        ensures none { OnErr result ((state self.new).is_started ≡ false) }
         ensures whole { OnOk result ((state self.new).rest ≡ (state self.old).bytes_of name.now) }
         ensures there { OnOk result ((state self.old).lacks name.now ≡ false) }
         ensures names { (state self.new).started ≡ names_after result (state self.old).started name.now }
         ensures lacks { (state self.new).lacks ≡ (state self.old).lacks }
         ensures bytes { (state self.new).bytes_of ≡ (state self.old).bytes_of }
-        ensures cause { HasCause (state self.old).faults (state self.new).faults result };
+        ensures faults { Counts OutsideFault.Failed (state self.old).faults (state self.new).faults result };
 
     /// Gives the next bytes of the started file in the first places of a slice that isn't empty, and answers how
     /// many; 0 is exactly the end of the file. After an error all that was left is left.
@@ -35,13 +36,13 @@ pub trait Files {
         ensures names { (state self.new).started ≡ (state self.old).started }
         ensures lacks { (state self.new).lacks ≡ (state self.old).lacks }
         ensures bytes { (state self.new).bytes_of ≡ (state self.old).bytes_of }
-        ensures cause { HasCause (state self.old).faults (state self.new).faults result };
+        ensures faults { Counts OutsideFault.Failed (state self.old).faults (state self.new).faults result };
 }
 
 /// Why a file wasn't read.
 #[derive(Clone, Copy, Debug, PartialEq, Eq, Drop, Error)]
 pub enum ReadError {
-    /// The files failed. It comes only where their count of faults rose in the call.
+    /// The files failed. It comes exactly where their count of faults rose in the call.
     #[error("read fault")]
     ReadFault,
     /// The file has more bytes than the limit.
@@ -80,7 +81,8 @@ impl From<AllocError> for ReadError {
 const CHUNK: usize = 8192;
 
 /// The bytes of the named file, of which there may be at most `limit`. It starts the name once and no other, takes
-/// at most `limit + 1` bytes, and each turn but the last takes one or more.
+/// at most `limit + 1` bytes however it ends, and each turn but the last takes one or more. After the first error it
+/// makes no call.
 pub fn read_file<F: Files>(
     alloc: Global,
     files: &mut F,
@@ -101,11 +103,11 @@ pub fn read_file<F: Files>(
     ensures stopped { IsErrOf result ReadError.TooLong → (F.state files.new).rest
         ≡ option_map (drop (limit + 1)) ((F.state files.old).bytes_of name.now) }
 
+    ensures left { OnErr result (TakesWithin (F.state files.new) ((F.state files.old).bytes_of name.now) limit) }
+
     ensures names { StartsOnce result (F.state files.old).started (F.state files.new).started name.now }
     ensures bytes { (F.state files.new).bytes_of ≡ (F.state files.old).bytes_of }
-    ensures later { (F.state files.old).faults ≤ (F.state files.new).faults }
-    ensures cause { IsErrOf result ReadError.ReadFault
-        → Rose (F.state files.old).faults (F.state files.new).faults }
+    ensures faults { Counts ReadError.ReadFault (F.state files.old).faults (F.state files.new).faults result }
 {
     files.start(name)?;
     let mut bytes = Vec::new(alloc);

@@ -1,20 +1,22 @@
-ghost use Rattle.std.specs.Prelude.{◌≡◌, Ok, IfOk, OnOk};
-ghost use Rattle.pb_io.specs.Faults.{HasCause};
+ghost use Rattle.std.specs.Prelude.{◌≡◌, Ok, IfOk};
+ghost use Rattle.pb_io.specs.Faults.{Counts};
 
 use crate::OutsideFault;
 use std::io;
 
-// Counts an error of the system, and answers it as a fault.
+// Answers an error of the system as a fault, and counts it unless memory ran out.
 pub(crate) fn counted<T: Drop>(faults: &mut u64, outcome: io::Result<T>) -> Result<T, OutsideFault>
     ensures value { IfOk result (λ value. outcome ≡ Ok value) }
-    ensures ok { OnOk result (faults.new ≡ faults.old) }
-    ensures cause { HasCause faults.old faults.new result }
+    ensures faults { Counts OutsideFault.Failed faults.old faults.new result }
 {
     match outcome {
         Ok(value) => Ok(value),
         Err(error) => {
-            *faults = faults.saturating_add(1);
-            Err(OutsideFault::from(error))
+            let fault = OutsideFault::from(error);
+            if fault == OutsideFault::Failed {
+                *faults = faults.saturating_add(1);
+            }
+            Err(fault)
         }
     }
 }

@@ -7,7 +7,7 @@ use std::io::Read;
 use std::marker::Model;
 use std::{fs, rt};
 
-/// The files of the system, by their paths. They tell whether a file is started and their count of faults.
+/// The files of the system, by their paths. They tell whether a file is started and how often they failed.
 #[derive(Drop)]
 pub struct HostFiles<R: rt::Files + Drop> {
     runtime: R,
@@ -25,7 +25,7 @@ impl<R: rt::Files + Drop> Model for HostFiles<R> {
 }
 
 impl<R: rt::Files + Drop> HostFiles<R> {
-    /// The files that this runtime reaches, none of them started, with no fault so far.
+    /// The files that this runtime reaches, none of them started, and with no fault so far.
     pub fn new(runtime: R) -> Self
         ensures { result ≡ record { is_started = false; faults = 0 } }
     {
@@ -53,31 +53,5 @@ impl<R: rt::Files + Drop> Files for HostFiles<R> {
             None => unreachable!(),
         };
         counted(&mut self.faults, outcome)
-    }
-}
-
-// Only what no other crate can see: the count of faults. The other tests stand in machine_tests.
-#[cfg(test)]
-mod tests {
-    use super::*;
-    use crate::read_file;
-    use std::test::Fail;
-    use std::{env, process};
-
-    #[test]
-    fn only_faults_are_counted(rt: HostRuntime) -> Result<(), Fail> {
-        let alloc = rt.alloc();
-        let process = process::id(rt.process());
-        let file = format!(in alloc; "pb_io_count_{process}")?;
-        let path = env::temp_dir(&rt)?.join(alloc, file.as_str())?;
-        let name = path.as_str();
-        fs::write(&rt, name, b"xyz".as_slice())?;
-        let mut files = HostFiles::new(&rt);
-        assert!(rt; read_file(alloc, &mut files, name, 10).is_ok());
-        assert_eq!(rt; files.faults, 0);
-        fs::remove_file(&rt, name)?;
-        assert!(rt; read_file(alloc, &mut files, name, 10).is_err());
-        assert_eq!(rt; files.faults, 1);
-        Ok(())
     }
 }

@@ -1,8 +1,9 @@
-//! Bytes in and bytes out: the two traits behind which the outside stands, and their implementations.
+//! Bytes in and bytes out: the two traits that the outside implements, and their implementations.
 //!
-//! `Files` gives the bytes of named files and `Sink` takes bytes. Each counts its faults, so that whoever is
-//! handed a fault can show where it came from. `MemFiles` and `MemSink` keep everything in memory and fail at the
-//! calls that they are told to; `HostFiles` and `HostSink` stand over the system's files and streams.
+//! `Files` gives the bytes of named files and `Sink` takes bytes. Each counts the calls that failed, so that whoever is
+//! handed an error can show where it came from, and whoever is handed none can show that none was dropped. `MemFiles`
+//! and `MemSink` keep everything in memory and fail at the calls that they are told to; `HostFiles` and `HostSink`
+//! stand over the system's files and streams.
 //!
 //! Used above: `read_file` gives the whole file or says why not, `put_all` writes all bytes or a prefix of them.
 //!

@@ -1,6 +1,6 @@
 ghost use Rattle.std.specs.Prelude.{◌+◌, ◌^◌, ◌≡◌, ◌<◌, ◌≤◌, ◌↔◌, ◌⊎◌, min, length, take, map, position, bytes_eq, string_bytes, None, IsSome, IsNone, IfOk, IfErr, IfSome, OnOk, IsErrOf};
 ghost use Rattle.pb_io.specs.Calls.{NextFails};
-ghost use Rattle.pb_io.specs.Faults.{HasCause};
+ghost use Rattle.pb_io.specs.Faults.{Counts};
 ghost use Rattle.pb_io.specs.Place.{rest_at, IsPlace};
 ghost use Rattle.pb_io.specs.MemFiles.{named_file, bytes_of, files_state, new_files, after_start, after_read};
 
@@ -16,8 +16,7 @@ struct Place {
     offset: usize,
 }
 
-/// Files in memory, which fail at the calls that they are told to, and where a name is missing. After a start that
-/// failed none is started.
+/// Files in memory, which fail at the calls that they are told to, and where a name is missing.
 #[derive(Drop)]
 pub struct MemFiles {
     files: Vec<(String, Vec<u8>)>,
@@ -85,8 +84,8 @@ fn copy_front(bytes: &[u8], into: &mut [u8]) -> usize
 
 impl MemFiles {
     /// These files under their names, none of them started. With a name twice, the first pair counts. The calls
-    /// with these numbers fail; starts and reads are counted together, from 1. A start that is refused for want of
-    /// memory is counted too, and changes nothing else.
+    /// with these numbers fail; starts and reads are counted together, from 1. A start that is refused because memory
+    /// ran out is counted too; its name isn't among those started, and no file is.
     pub fn new(files: Vec<(String, Vec<u8>)>, failing: Vec<u64>) -> Self
         ensures { result ≡ new_files (map named_file files.items) failing.items }
     {
@@ -118,16 +117,15 @@ impl Files for MemFiles {
         ensures found { OnOk result (IsSome (bytes_of self.old.files name.now)) }
 
         ensures after { self.new ≡ after_start self.old name.now result }
-        ensures cause { HasCause self.old.faults self.new.faults result }
+        ensures faults { Counts OutsideFault.Failed self.old.faults self.new.faults result }
     {
         let fails = self.calls.next_fails();
+        self.place = None;
         let copy = String::from_str(*self.started.allocator(), name)?;
         self.started.push(copy).map_err(AllocError::from)?;
-        self.place = if fails {
-            None
-        } else {
-            beginning_of(&self.files, name)
-        };
+        if !fails {
+            self.place = beginning_of(&self.files, name);
+        }
         if self.place.is_none() {
             self.faults = self.faults.saturating_add(1);
             return Err(OutsideFault::Failed);
@@ -143,7 +141,7 @@ impl Files for MemFiles {
         ensures failed { IsErrOf result OutsideFault.Failed ↔ NextFails self.old.calls }
         ensures no_memory { IfErr result (λ fault. fault ≡ OutsideFault.Failed) }
         ensures after { self.new ≡ after_read self.old result }
-        ensures cause { HasCause self.old.faults self.new.faults result }
+        ensures faults { Counts OutsideFault.Failed self.old.faults self.new.faults result }
     {
         if self.calls.next_fails() {
             self.faults = self.faults.saturating_add(1);

@@ -1,6 +1,6 @@
 ghost use Rattle.std.specs.Prelude.{◌≡◌, ◌<◌, ◌≤◌, ◌↔◌, min, length, IfOk, IfErr, IsErrOf};
 ghost use Rattle.pb_io.specs.Calls.{NextFails};
-ghost use Rattle.pb_io.specs.Faults.{HasCause};
+ghost use Rattle.pb_io.specs.Faults.{Counts};
 ghost use Rattle.pb_io.specs.MemSink.{sink_state, new_sink, after_write, after_flush};
 
 use crate::calls::CallCounter;
@@ -16,6 +16,7 @@ pub struct MemSink {
     writes: CallCounter,
     flushes: CallCounter,
     faults: u64,
+    wants: u64,
 }
 
 impl Model for MemSink {
@@ -31,6 +32,7 @@ impl Model for MemSink {
       writes = fields.writes;
       flushes = fields.flushes;
       faults = fields.faults;
+      wants = fields.wants;
     } };
 
     ghost invariant = { λ fields. (fields.flushed ≤ length fields.bytes.items) × (0 < fields.largest) };
@@ -50,6 +52,7 @@ impl MemSink {
             writes: CallCounter::new(failing_writes),
             flushes: CallCounter::new(failing_flushes),
             faults: 0,
+            wants: 0,
         }
     }
 
@@ -78,14 +81,18 @@ impl Sink for MemSink {
         ensures taken { IfOk result (λ n. n ≡ min (length piece.now) self.old.largest) }
         ensures failed { IsErrOf result OutsideFault.Failed ↔ NextFails self.old.writes }
         ensures after { self.new ≡ after_write self.old piece.now result }
-        ensures cause { HasCause self.old.faults self.new.faults result }
+        ensures faults { Counts OutsideFault.Failed self.old.faults self.new.faults result }
+        ensures wants { Counts OutsideFault.OutOfMemory self.old.wants self.new.wants result }
     {
         if self.writes.next_fails() {
             self.faults = self.faults.saturating_add(1);
             return Err(OutsideFault::Failed);
         }
         let taken = piece.len().min(self.largest);
-        self.bytes.extend_from_slice(&piece[..taken])?;
+        if self.bytes.extend_from_slice(&piece[..taken]).is_err() {
+            self.wants = self.wants.saturating_add(1);
+            return Err(OutsideFault::OutOfMemory);
+        }
         Ok(taken)
     }
 
@@ -94,7 +101,8 @@ impl Sink for MemSink {
         ensures no_memory { IfErr result (λ fault. fault ≡ OutsideFault.Failed) }
         ensures after { self.new ≡ after_flush self.old result }
         ensures flushed { self.old.flushed ≤ self.new.flushed }
-        ensures cause { HasCause self.old.faults self.new.faults result }
+        ensures faults { Counts OutsideFault.Failed self.old.faults self.new.faults result }
+        ensures wants { Counts OutsideFault.OutOfMemory self.old.wants self.new.wants result }
     {
         if self.flushes.next_fails() {
             self.faults = self.faults.saturating_add(1);

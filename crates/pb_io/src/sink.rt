@@ -1,5 +1,5 @@
 ghost use Rattle.std.specs.Prelude.{◌≡◌, ◌<◌, ◌≤◌, length, take, IfOk, OnOk, OnErr};
-ghost use Rattle.pb_io.specs.Faults.{HasCause};
+ghost use Rattle.pb_io.specs.Faults.{raised, Counts};
 ghost use Rattle.pb_io.specs.Sink.{SinkState, with_bytes, NoFewer, IsFlushed, Puts};
 
 use crate::OutsideFault;
@@ -7,11 +7,12 @@ use thiserror::Error;
 
 /// What takes bytes, as standard output does.
 pub trait Sink {
-    /// The bytes written and how many of them are flushed, where the sink tells it, and the count of faults.
+    /// The bytes written and how many of them are flushed, where the sink tells both, and three counts: of the calls
+    /// that failed, of those that had no memory, and of the calls of `flush`.
     ghost state: { Self → SinkState };
 
     /// Takes one or more bytes from the front of a piece that isn't empty, and answers how many. After an error
-    /// nothing of the piece is written.
+    /// nothing of the piece is written, and the count of that error rose.
     fn write(&mut self, piece: &[u8]) -> Result<usize, OutsideFault>
         requires { 0 < length piece.now }
         ensures some { IfOk result (λ n. 0 < n) }
@@ -20,23 +21,28 @@ pub trait Sink {
             (state self.new).written ≡ with_bytes (state self.old).written (take n piece.now)) }
         ensures err { OnErr result ((state self.new).written ≡ (state self.old).written) }
         ensures flushed { NoFewer (state self.old).flushed (state self.new).flushed }
-        ensures cause { HasCause (state self.old).faults (state self.new).faults result };
+        ensures flushes { (state self.new).flushes ≡ (state self.old).flushes }
+        ensures faults { Counts OutsideFault.Failed (state self.old).faults (state self.new).faults result }
+        ensures wants { Counts OutsideFault.OutOfMemory (state self.old).wants (state self.new).wants result };
 
-    /// Hands on all that was written. It changes none of the written bytes.
+    /// Hands on all that was written. It changes none of the written bytes. Each call is counted, and after an error
+    /// the count of that error rose.
     fn flush(&mut self) -> Result<(), OutsideFault>
         ensures ok { OnOk result (IsFlushed (state self.new)) }
         ensures written { (state self.new).written ≡ (state self.old).written }
         ensures flushed { NoFewer (state self.old).flushed (state self.new).flushed }
-        ensures cause { HasCause (state self.old).faults (state self.new).faults result };
+        ensures flushes { (state self.new).flushes ≡ raised (state self.old).flushes }
+        ensures faults { Counts OutsideFault.Failed (state self.old).faults (state self.new).faults result }
+        ensures wants { Counts OutsideFault.OutOfMemory (state self.old).wants (state self.new).wants result };
 }
 
 /// Why not all bytes were put.
 #[derive(Clone, Copy, Debug, PartialEq, Eq, Drop, Error)]
 pub enum PutError {
-    /// The sink failed. It comes only where the sink's count of faults rose in the call.
+    /// The sink failed. It comes exactly where the sink's count of faults rose in the call.
     #[error("write fault")]
     WriteFault,
-    /// The sink had no memory. It may come at any call.
+    /// The sink had no memory. It may come at any call, and comes exactly where the sink counted it.
     #[error("out of memory")]
     OutOfMemory,
 }
@@ -54,8 +60,9 @@ impl From<OutsideFault> for PutError {
     }
 }
 
-/// Writes all bytes in order, in as many writes as the sink wants. Each write that doesn't fail takes one byte or
-/// more. After an error a prefix of the bytes is written. It takes no memory itself.
+/// Writes all bytes in order, in as many writes as the sink wants, and doesn't flush. Each write that doesn't fail
+/// takes one byte or more. After the first error nothing more is written, so that a prefix of the bytes is. It takes
+/// no memory itself.
 pub fn put_all<O: Sink>(sink: &mut O, bytes: &[u8]) -> Result<(), PutError>
     ensures { Puts (O.state sink.old) (O.state sink.new) bytes.now result }
 {

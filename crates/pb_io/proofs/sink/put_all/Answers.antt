@@ -1,5 +1,6 @@
 use Rattle.std.proofs.Common.{arith}
 use Rattle.std.proofs.lemmas.Grind.{common_steps}
+use Rattle.pb_io.proofs.Counts.{Counts-ok}
 use Rattle.pb_io.proofs.Putting.{PutsFront-write}
 use Rattle.pb_io.proofs.sink.put_all.Goals as goal
 
@@ -10,4 +11,6 @@ loop-rest-preserved g c =
     c.in_ok-taken.ensures.ok
     (grind (arith, common_steps))
     c.write.ensures.flushed
-    c.write.ensures.cause.later
+    c.write.ensures.flushes
+    (Counts-ok _ _ _ _ c.in_ok-taken.ensures.faults)
+    (Counts-ok _ _ _ _ c.in_ok-taken.ensures.wants)

@@ -11,7 +11,7 @@ use Rattle.evaluation.specs.declared.place.Place.TheVariants as location
 use Rattle.evaluation.specs.World.{World, gives}
 use Rattle.evaluation.specs.Objects.{found, read_place, write_local}
 use Rattle.evaluation.specs.Execute.{printed, prints}
-use Rattle.interpreter.specs.Frames.{place_value}
+use Rattle.interpreter.specs.Functions.{place_value}
 
 -- what Some holds
 pub inj : {A : Type 0} (a b : A) → Some a ≡ Some b → a ≡ b

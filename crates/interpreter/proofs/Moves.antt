@@ -28,7 +28,11 @@ use Rattle.interpreter.specs.declared.frame.Frame.TheVariants as frame
 use Rattle.interpreter.specs.declared.frame.Made.TheVariants as made
 use Rattle.interpreter.specs.declared.frame.Focus.{Focus}
 use Rattle.interpreter.specs.declared.frame.Focus.TheVariants as focus
-use Rattle.interpreter.specs.Frames.{Setting, Point, world, called_with, loop_of, new_from, next_turn, run_maker, started, used, Begins, ended, Makes, resumed, stacked, focused, is_other, AreOther, IsFresh, Pushes, Moves}
+use Rattle.interpreter.specs.Frames.{called_with, loop_of, used, ended, resumed, stacked, focused}
+use Rattle.interpreter.specs.Setting.{Setting, Point, world}
+use Rattle.interpreter.specs.Moves.{Begins, Makes, is_other, AreOther, IsFresh, Pushes, Moves}
+use Rattle.interpreter.specs.Functions.{new_from, next_turn, run_maker}
+use Rattle.interpreter.specs.Starts.{started}
 
 -- nothing is pushed
 pub stays : (b : Bool) (node : Parts → Run) (m n : Point) (y : Focus) → IsFresh b y [] → n.setting ≡ m.setting → n.taken ≡ m.taken → n.marks ≡ m.marks → n.frames ≡ m.frames → ((k f : ℕ) (J : List Entry) → node (meaning m.setting.program k) (world m f J) ≡ focused m.setting.program (meaning m.setting.program k) y (world n f J)) → Moves b node m n y
@@ -170,7 +174,7 @@ pushed_by node inner m n z x y other is same mv = pushed_then node (inner m.sett
 pub begun_by : (node : Parts → Run) (inner : Program → Parts → Run) (m n z : Point) (e : CallEnd) (this : Option ℕ) (locals : List Value) (y : Focus) → Begins e this locals m n → ((k f : ℕ) (J : List Entry) → node (meaning m.setting.program k) (world m f J) ≡ leave (ended e) m.this m.locals (inner m.setting.program (meaning m.setting.program k) (record { this = this; locals = locals; now = m.now; live = m.live + 1; fuel = f; journal = J }))) → Moves false (inner n.setting.program) n z y → Moves false node m z y
 begun_by node inner m n z e this locals y is same mv = begun_then node (inner m.setting.program) m n z e this locals y is same (subst (λ (s : Setting). Moves false (inner s.program) n z y) (ap (λ (a : Point). a.setting) is) mv)
 
--- a constructor's superclass, and what comes behind it
+-- a constructor's superclass, and what comes after it
 pub builds : (m n z : Point) (o levels : ℕ) (maker : Bor Maker) (y : Focus) → Pushes (frame.Normal (normal.Parent o maker)) m n → Moves false (λ part. build_parent n.setting.program part (construct n.setting.program part levels) o maker.now.parent) n z y → Moves false (λ part. build m.setting.program part (construct m.setting.program part levels) o maker.now) m z y
 builds m n z o levels maker y is mv = pushed_by _ (λ p part. build_parent p part (construct p part levels) o maker.now.parent) m n z (frame.Normal (normal.Parent o maker)) y refl is (λ k f J. refl) mv
 
@@ -195,9 +199,9 @@ news way m n z k o es slice got y makes same none mv =
     (λ i f J. ap (λ (s : Setting). new_from s.program (meaning p i) k es o (world n f J)) (sym makes.setting) ∙ ap (λ fs. arguments p (meaning p i) fs [] (called_with p (meaning p i) (callee.New k o)) (world n f J)) (sym same) ∙ ap (λ vs. arguments p (meaning p i) slice vs (called_with p (meaning p i) (callee.New k o)) (world n f J)) (sym none))
     mv)
 
--- an initialiser, and those behind it
+-- an initialiser, and those after it
 pub fields_then : (m n z : Point) (o c at next : ℕ) (e : Expr) (fields : Bor (List Field)) (y : Focus) → next ≡ suc at → Pushes (frame.Normal (normal.Fields o c next fields)) m n → Moves false (λ part w. value_then (used n.setting.program part (on.WriteCell o at)) (part.expr e w)) n z y → Moves false (λ part. started m.setting.program part o c at e fields.now) m z y
-fields_then m n z o c at next e fields y behind is mv =
+fields_then m n z o c at next e fields y follows is mv =
     let p = m.setting.program in
     pushed_by _ (λ p part w. value_then (used p part (on.WriteCell o at)) (part.expr e w)) m n z (frame.Normal (normal.Fields o c next fields)) y refl is
-    (λ k f J. ap (λ i. normal_then (initialise p (meaning p k) o c i (drop i fields.now)) (value_then (used p (meaning p k) (on.WriteCell o at)) ((meaning p k).expr e (world m f J)))) (sym behind)) mv
+    (λ k f J. ap (λ i. normal_then (initialise p (meaning p k) o c i (drop i fields.now)) (value_then (used p (meaning p k) (on.WriteCell o at)) ((meaning p k).expr e (world m f J)))) (sym follows)) mv

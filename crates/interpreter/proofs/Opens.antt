@@ -9,7 +9,7 @@ use Rattle.evaluation.specs.World.{gives}
 use Rattle.evaluation.specs.Calls.{Loop}
 use Rattle.evaluation.specs.Evaluate.{expr_node}
 use Rattle.evaluation.specs.Execute.{stmt_node, turn, meaning}
-use Rattle.interpreter.specs.Frames.{Point, world}
+use Rattle.interpreter.specs.Setting.{Point, world}
 use Rattle.std.specs.Prelude.{List}
 
 pub opens_expr : (p : Program) (d f : ℕ) (e : Expr) (m : Point) (J : List Entry) → suc f ≤ d → (k : ℕ) × (f ≤ k) × ((meaning p d).expr e (world m (suc f) J) ≡ expr_node p (meaning p k) (out-Expr e) (world m f J))

@@ -21,8 +21,10 @@ use Rattle.interpreter.specs.declared.frame.Frame.{Frame}
 use Rattle.interpreter.specs.declared.frame.Frame.TheVariants as frame
 use Rattle.interpreter.specs.declared.frame.Focus.{Focus}
 use Rattle.interpreter.specs.declared.frame.Focus.TheVariants as focus
-use Rattle.interpreter.specs.Frames.{loop_of, used, passed, repeated, followed, plainly, resumed, stacked, Point, world, is_other, AreOther, IsFresh, Moves}
-use Rattle.interpreter.specs.Points.{wanted, Stands, room, depth_of, Gives, At}
+use Rattle.interpreter.specs.Frames.{loop_of, used, passed, repeated, followed, plainly, resumed, stacked}
+use Rattle.interpreter.specs.Setting.{Point, world}
+use Rattle.interpreter.specs.Moves.{is_other, AreOther, IsFresh, Moves}
+use Rattle.interpreter.specs.Points.{wanted, Stands, room, depth_of, Gives, At, Runs}
 use Rattle.interpreter.proofs.Opens.{opens_expr, opens_stmt, opens_loop}
 
 abbrev pub answer : Outcome → World → List ℕ → List KeptCall → Answer
@@ -127,7 +129,7 @@ others_wanted g k (x ∷ xs) le others = ((let high = wanted_other x k others.0 
 
 -- ---- the machine goes on
 
--- a focus behind which a step is taken: a node
+-- a focus after which a step is taken: a node
 abbrev pub IsNode : Focus → Bool
 IsNode (focus.Expr e) = true
 IsNode (focus.Stmt s) = true
@@ -179,10 +181,7 @@ stepped m = record m { taken = m.taken + 1 }
 pub no_strict : {f k : ℕ} → false ≡ true → suc f ≤ k
 no_strict h = cc
 
-abbrev pub Result : Type 0
-Result = ℕ → List Entry → Answer
-
-pub at_expr : (m n : Point) (printed : List ℕ) (e : Bor Expr) (y : Focus) → Moves false (λ part. expr_node m.setting.program part (out-Expr e.now)) (stepped m) n y → (R : Result) → At R m printed (focus.Expr e) → At R n printed y
+pub at_expr : (m n : Point) (printed : List ℕ) (e : Bor Expr) (y : Focus) → Moves false (λ part. expr_node m.setting.program part (out-Expr e.now)) (stepped m) n y → (R : Runs) → At R m printed (focus.Expr e) → At R n printed y
 at_expr m n printed e y mv R at = record {
   gives = λ f J.
       let p = m.setting.program in
@@ -193,7 +192,7 @@ at_expr m n printed e y mv R at = record {
       (ap (λ t. R t J) steps ∙ G.same ∙ ap (λ a. after printed [] (G.make a)) o.2);
 }
 
-pub at_stmt : (m n : Point) (printed : List ℕ) (s : Bor Stmt) (y : Focus) → Moves false (λ part. stmt_node m.setting.program part (out-Stmt s.now)) (stepped m) n y → (R : Result) → At R m printed (focus.Stmt s) → At R n printed y
+pub at_stmt : (m n : Point) (printed : List ℕ) (s : Bor Stmt) (y : Focus) → Moves false (λ part. stmt_node m.setting.program part (out-Stmt s.now)) (stepped m) n y → (R : Runs) → At R m printed (focus.Stmt s) → At R n printed y
 at_stmt m n printed s y mv R at = record {
   gives = λ f J.
       let p = m.setting.program in
@@ -204,7 +203,7 @@ at_stmt m n printed s y mv R at = record {
       (ap (λ t. R t J) steps ∙ G.same ∙ ap (λ a. after printed [] (G.make a)) o.2);
 }
 
-pub at_loop : (m n : Point) (printed : List ℕ) (l : LoopParts) (y : Focus) → Moves false (λ part. turn m.setting.program part (loop_of l)) m n y → (R : Result) → At R m printed (focus.Loop l) → At R n printed y
+pub at_loop : (m n : Point) (printed : List ℕ) (l : LoopParts) (y : Focus) → Moves false (λ part. turn m.setting.program part (loop_of l)) m n y → (R : Runs) → At R m printed (focus.Loop l) → At R n printed y
 at_loop m n printed l y mv R at = record {
   gives = λ f J.
       let p = m.setting.program in
@@ -216,7 +215,7 @@ at_loop m n printed l y mv R at = record {
 }
 
 -- a constructor is run
-pub at_construct : (m n : Point) (printed : List ℕ) (k o : ℕ) (args : List Value) (levels : ℕ) (y : Focus) → Moves false (λ part. construct m.setting.program part levels k o args) m n y → (R : Result) → At R m printed (focus.Construct k o args levels) → At R n printed y
+pub at_construct : (m n : Point) (printed : List ℕ) (k o : ℕ) (args : List Value) (levels : ℕ) (y : Focus) → Moves false (λ part. construct m.setting.program part levels k o args) m n y → (R : Runs) → At R m printed (focus.Construct k o args levels) → At R n printed y
 at_construct m n printed k o args levels y mv R at = record {
   gives = λ f J.
       let G = at.gives f J in
@@ -225,8 +224,8 @@ at_construct m n printed k o args levels y mv R at = record {
       (ap (λ t. R t J) steps ∙ G.same);
 }
 
--- a frame that is no loop's has been taken off m
-pub at_answer : (m n : Point) (printed : List ℕ) (x : Frame) (o : Outcome) (y : Focus) → is_other x ≡ true → Moves false (λ part w. resumed m.setting.program part x (gives o w)) m n y → (R : Result) → At R (record m { frames = x ∷ m.frames }) printed (focus.Answer o) → At R n printed y
+-- a frame that isn't a loop's has been taken off m
+pub at_answer : (m n : Point) (printed : List ℕ) (x : Frame) (o : Outcome) (y : Focus) → is_other x ≡ true → Moves false (λ part w. resumed m.setting.program part x (gives o w)) m n y → (R : Runs) → At R (record m { frames = x ∷ m.frames }) printed (focus.Answer o) → At R n printed y
 at_answer m n printed x o y other mv R at = record {
   gives = λ f J.
       let G = at.gives f J in
@@ -244,7 +243,7 @@ at_answer m n printed x o y other mv R at = record {
     wanted_at_most (frame.Plain x) f k le = omega arith
 
 -- a loop's frame has been taken off m: it is one turn deeper
-pub at_turn : (m n : Point) (printed : List ℕ) (x : LoopFrame) (o : Outcome) (y : Focus) → Moves true (λ part w. repeated m.setting.program part x (gives o w)) m n y → (R : Result) → At R (record m { frames = frame.Loop x ∷ m.frames }) printed (focus.Answer o) → At R n printed y
+pub at_turn : (m n : Point) (printed : List ℕ) (x : LoopFrame) (o : Outcome) (y : Focus) → Moves true (λ part w. repeated m.setting.program part x (gives o w)) m n y → (R : Runs) → At R (record m { frames = frame.Loop x ∷ m.frames }) printed (focus.Answer o) → At R n printed y
 at_turn m n printed x o y mv R at = record {
   gives = λ f J.
       let G = at.gives f J in
@@ -261,7 +260,7 @@ prints_bytes p g xs make st bytes w =
     ap (λ out. make (answer outcome.Normal w out [])) (sym (append-nil bytes)) ∙ stands_after p g xs make st bytes (gives outcome.Normal w)
 
 -- the bytes have been printed
-pub at_print : (m : Point) (printed : List ℕ) (bytes : Vec ℕ Global) (R : Result) → At R m printed (focus.Print bytes) → At R m (printed ++ bytes.items) (focus.Answer outcome.Normal)
+pub at_print : (m : Point) (printed : List ℕ) (bytes : Vec ℕ Global) (R : Runs) → At R m printed (focus.Print bytes) → At R m (printed ++ bytes.items) (focus.Answer outcome.Normal)
 at_print m printed bytes R at = record {
   gives = λ f J.
       let p = m.setting.program in

@@ -20,7 +20,8 @@ use Rattle.evaluation.specs.Values.{update_value}
 use Rattle.evaluation.specs.Objects.{computed, make, trap, write_cell, write_place}
 use Rattle.evaluation.specs.Calls.{Parts, block, construct, initialise}
 use Rattle.interpreter.specs.declared.start.Start.{Start}
-use Rattle.interpreter.specs.Frames.{FieldStart, initialised_then, initialiser_in, next_start, run_maker, start_of, started, updated}
+use Rattle.interpreter.specs.Functions.{run_maker, updated}
+use Rattle.interpreter.specs.Starts.{FieldStart, initialised_then, initialiser_in, next_start, start_of, started}
 
 pub construct_step : (p : Program) (part : Parts) (levels rest k o : ℕ) (args : List Value) (w : World) → levels ≡ suc rest → construct p part levels k o args w ≡ option_map_or (λ maker. run_maker p part rest maker o args) (slice_get p.makers k) (gives outcome.Stuck) w
 construct_step p part levels rest k o args w is = rw is refl
@@ -36,15 +37,15 @@ tail_drop (y ∷ ys) (suc at) x xs e = tail_drop ys at x xs e
 
 -- ---- field initialisers
 
--- one initialiser, or none, and those behind it
+-- one initialiser, or none, and those after it
 one_start : (p : Program) (part : Parts) (o c at : ℕ) (all fields : List Field) (w : World) (e : Option Expr) → fields ≡ drop (suc at) all
     → initialise p part o c (suc at) fields w ≡ option_map_or (λ (s : FieldStart). started p part o c s.at s.value all) (next_start c (suc at) fields) (gives outcome.Normal) w
     → (option_map_or (λ e. part.expr e >>= (λ v. write_cell o at v)) e (gives outcome.Normal) >> initialise p part o c (suc at) fields) w
     ≡ option_map_or (λ (s : FieldStart). started p part o c s.at s.value all) (option_map_or (λ e. Some (record { at = at; value = e })) e (next_start c (suc at) fields)) (gives outcome.Normal) w
-one_start p part o c at all fields w None rest behind = behind
-one_start p part o c at all fields w (Some e) rest behind = ap (λ fs. ((part.expr e >>= (λ v. write_cell o at v)) >> initialise p part o c (suc at) fs) w) rest
+one_start p part o c at all fields w None rest follows = follows
+one_start p part o c at all fields w (Some e) rest follows = ap (λ fs. ((part.expr e >>= (λ v. write_cell o at v)) >> initialise p part o c (suc at) fs) w) rest
 
--- the initialisers are the first of them and those behind it
+-- the initialisers are the first of them and those after it
 starts : (p : Program) (part : Parts) (o c at : ℕ) (all fields : List Field) (w : World) → fields ≡ drop at all → initialise p part o c at fields w ≡ option_map_or (λ (s : FieldStart). started p part o c s.at s.value all) (next_start c at fields) (gives outcome.Normal) w
 starts p part o c at all [] w is = refl
 starts p part o c at all (field ∷ fields) w is =
@@ -71,7 +72,7 @@ then_none p part o c all body rest w is same = ap (normal_then (block p part bod
 
 -- ---- exceptions
 
--- an exception that is thrown is no value
+-- an exception that is thrown isn't a value
 pub trapped : (p : Program) (c : BuiltIn) (go : Value → Run) (w : World) → value_then go (trap p c w) ≡ trap p c w
 trapped p c go w = cases (slice_get p.classes (number_of c))
   where

@@ -2,7 +2,9 @@
 use Rattle.std.proofs.Common.{Bor, ◌≡◌, ℕ, suc, ◌+◌, ◌-◌, ◌≤◌, ◌<◌, true, false, List, [], ◌∷◌, ◌++◌, length, Ok, Err, Vec, Global, refl, sym, ap, subst, ◌∙◌, arith, append-nil, append_assoc, ◌*◌}
 use Rattle.std.proofs.Math.Nat.{mul-suc}
 use Rattle.pb_io.specs.declared.sink.PutError.{PutError}
+use Rattle.pb_io.specs.Faults.{Counts}
 use Rattle.pb_io.specs.Sink.{SinkState, Puts}
+use Rattle.pb_io.proofs.Counts.{Counts-ok}
 use Rattle.pb_io.proofs.Puts.{Puts-nil, Puts-stop, Puts-append}
 use Rattle.core_tree.specs.declared.expr.Expr.{Expr, out-Expr}
 use Rattle.core_tree.specs.declared.stmt.Stmt.{Stmt, out-Stmt}
@@ -32,15 +34,18 @@ use Rattle.interpreter.specs.declared.frame.Focus.{Focus}
 use Rattle.interpreter.specs.declared.frame.Focus.TheVariants as focus
 use Rattle.interpreter.specs.declared.frame.EarlyEnd.{EarlyEnd}
 use Rattle.interpreter.specs.declared.frame.EarlyEnd.TheVariants as early
-use Rattle.interpreter.specs.Frames.{loop_of, repeated, resumed, focused, Setting, Point, world, is_other, frame_calling, call_frame_weight, frame_weight, frames_weight, focus_weight, entry_weight, IsLight, Moves}
-use Rattle.interpreter.specs.Points.{Stands, At, Leads, Ends, Stops, work, sink_answer}
+use Rattle.interpreter.specs.Frames.{loop_of, repeated, resumed, focused}
+use Rattle.interpreter.specs.Setting.{Setting, Point, world}
+use Rattle.interpreter.specs.Weights.{frame_calling, call_frame_weight, frame_weight, frames_weight, focus_weight, entry_weight, IsLight}
+use Rattle.interpreter.specs.Moves.{is_other, Moves}
+use Rattle.interpreter.specs.Points.{Stands, At, Leads, Ends, Stops, work, sink_answer, Runs}
 use Rattle.interpreter.proofs.Opens.{no_step_expr, no_step_stmt}
-use Rattle.interpreter.proofs.Runs.{Result, stepped, at_expr, at_stmt, at_loop, at_construct, at_answer, at_turn, at_print, prints_bytes}
+use Rattle.interpreter.proofs.Runs.{stepped, at_expr, at_stmt, at_loop, at_construct, at_answer, at_turn, at_print, prints_bytes}
 
 -- ---- the machine goes on
 
 -- nothing was put
-leads : (m n : Point) (x y : Focus) (sink : SinkState) → n.setting ≡ m.setting → n.marks ≡ m.marks → n.taken ≤ n.setting.budget → ((R : Result) (printed : List ℕ) → At R m printed x → At R n printed y) → Leads m x sink n y sink
+leads : (m n : Point) (x y : Focus) (sink : SinkState) → n.setting ≡ m.setting → n.marks ≡ m.marks → n.taken ≤ n.setting.budget → ((R : Runs) (printed : List ℕ) → At R m printed x → At R n printed y) → Leads m x sink n y sink
 leads m n x y sink setting marks within on = record {
   more = [];
   put = Puts-nil sink tt;
@@ -132,11 +137,29 @@ step_turn m0 m n x o y sink le is mv light =
       answer_less 2 m n (frame.Loop x) o y mv.setting mv.taken (omega arith) light,
     )
 
+-- bytes that were put without an error
+counts_done : {T U E : Type 0} (error : E) (before now : ℕ) (done : T) (value : U) → Counts error before now (Ok done) → Counts error before now (Ok value)
+counts_done error before now done value counts = record {
+  later = counts.later;
+  rose = λ is. cc;
+  stands = λ _. Counts-ok error before now done counts;
+}
+
+puts_done : {T U : Type 0} (before now : SinkState) (bytes : List ℕ) (done : T) (value : U) → Puts before now bytes (Ok done) → Puts before now bytes (Ok value)
+puts_done before now bytes done value put = record {
+  ok = put.ok;
+  err = tt;
+  flushed = put.flushed;
+  flushes = put.flushes;
+  faults = counts_done _ before.faults now.faults done value put.faults;
+  wants = counts_done _ before.wants now.wants done value put.wants;
+}
+
 pub step_print : {T : Type 0} (m : Point) (bytes : Vec ℕ Global) (before now : SinkState) (done : T) → m.taken ≤ m.setting.budget → Puts before now bytes.items (Ok done) → Goes m (focus.Print bytes) before m (focus.Answer Normal) now
 step_print m bytes before now done le put = (
   record {
     more = bytes.items;
-    put = record { ok = put.ok; err = tt; flushed = put.flushed; later = put.later; cause = λ is_error. cc };
+    put = puts_done before now bytes.items done tt put;
     on = λ R printed at. at_print m printed bytes R at;
     setting = refl;
     marks = refl;
@@ -151,20 +174,20 @@ empty_same : (p : Program) (g : ℕ) (xs : List Frame) (make : Answer → Answer
 empty_same p g [] make e st = st
 empty_same p g (x ∷ xs) make e st = cc
 
--- a run with so many steps more
-at_steps : (m : Point) (o : Outcome) (f : ℕ) → m.frames ≡ [] → (R : Result) (printed : List ℕ) (J : List Entry) → At R m printed (focus.Answer o) → R (m.taken + f) J ≡ after printed [] (gives o (world m f J))
+-- a run with that many steps more
+at_steps : (m : Point) (o : Outcome) (f : ℕ) → m.frames ≡ [] → (R : Runs) (printed : List ℕ) (J : List Entry) → At R m printed (focus.Answer o) → R (m.taken + f) J ≡ after printed [] (gives o (world m f J))
 at_steps m o f empty R printed J at =
     let G = at.gives f J in
     G.same ∙ ap (after printed []) (empty_same m.setting.program _ m.frames G.make empty G.frames (gives o (world m f J)))
 
 -- the run with the budget as its steps
-at_budget : (m : Point) (o : Outcome) → m.taken ≤ m.setting.budget → m.frames ≡ [] → (R : Result) (printed : List ℕ) (J : List Entry) → At R m printed (focus.Answer o) → R m.setting.budget J ≡ after printed [] (gives o (world m (m.setting.budget - m.taken) J))
+at_budget : (m : Point) (o : Outcome) → m.taken ≤ m.setting.budget → m.frames ≡ [] → (R : Runs) (printed : List ℕ) (J : List Entry) → At R m printed (focus.Answer o) → R m.setting.budget J ≡ after printed [] (gives o (world m (m.setting.budget - m.taken) J))
 at_budget m o le empty R printed J at =
     let e : m.setting.budget ≡ m.taken + (m.setting.budget - m.taken) = omega arith in
     ap (λ t. R t J) e ∙ at_steps m o (m.setting.budget - m.taken) empty R printed J at
 
 -- the run with just the steps that were taken
-at_taken : (m n : Point) (o : Outcome) → n.taken ≡ m.taken → m.frames ≡ [] → (R : Result) (printed : List ℕ) (J : List Entry) → At R m printed (focus.Answer o) → R n.taken J ≡ after printed [] (gives o (world m 0 J))
+at_taken : (m n : Point) (o : Outcome) → n.taken ≡ m.taken → m.frames ≡ [] → (R : Runs) (printed : List ℕ) (J : List Entry) → At R m printed (focus.Answer o) → R n.taken J ≡ after printed [] (gives o (world m 0 J))
 at_taken m n o taken empty R printed J at =
     let e : n.taken ≡ m.taken + 0 = omega (arith, taken) in
     ap (λ t. R t J) e ∙ at_steps m o 0 empty R printed J at
@@ -224,7 +247,7 @@ ends_spent m x sink full spent = record {
       ([], out, ap (λ t. (R t J).out) full ∙ out, Puts-nil sink tt);
 }
   where
-    whole : (R : Result) (printed : List ℕ) (J : List Entry) → At R m printed x → (v : World) × ((v.now ≡ m.now) × ((v.fuel ≡ 0) × ((v.journal ≡ J) × (R m.setting.budget J ≡ after printed [] (gives Spent v)))))
+    whole : (R : Runs) (printed : List ℕ) (J : List Entry) → At R m printed x → (v : World) × ((v.now ≡ m.now) × ((v.fuel ≡ 0) × ((v.journal ≡ J) × (R m.setting.budget J ≡ after printed [] (gives Spent v)))))
     whole R printed J at =
         let G = at.gives 0 J in
         let e : m.setting.budget ≡ m.taken + 0 = omega (arith, full) in

@@ -1,3 +1,9 @@
 pub mod Frames
-pub mod Machine
+pub mod Setting
+pub mod Weights
+pub mod Moves
+pub mod Functions
+pub mod Starts
 pub mod Points
+pub mod Machine
+pub mod View

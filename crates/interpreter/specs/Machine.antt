@@ -1,12 +1,11 @@
 -- What callers see of the machine: how its runs end.
-use Rattle.std.specs.Prelude.{◌≡◌, ◌⊎◌, ℕ, ◌+◌, ◌≤◌, true, nat_le, List, [], ◌∷◌, map, slice_get, Option, Some, None, Result, Ok, Err, String, string_bytes}
+use Rattle.std.specs.Prelude.{◌≡◌, ◌⊎◌, ℕ, ◌+◌, ◌≤◌, Bool, true, false, IsTrue, nat_le, List, [], ◌∷◌, map, slice_get, Option, Some, None, Result, Ok, Err, String, string_bytes}
 use Rattle.std.specs.Borrow.{Bor}
 use Rattle.std.specs.Str.{chars}
 use Rattle.pb_io.specs.declared.sink.PutError.{PutError}
 use Rattle.pb_io.specs.declared.sink.PutError.TheVariants as put
 use Rattle.pb_io.specs.Faults.{Rose}
 use Rattle.pb_io.specs.Sink.{SinkState, with_bytes, AppendsPrefix, NoFewer}
-use Rattle.core_tree.specs.declared.ty.Ty.{Ty}
 use Rattle.core_tree.specs.declared.what.What.{What}
 use Rattle.core_tree.specs.declared.what.What.TheVariants as what
 use Rattle.core_tree.specs.declared.stmt.Stmt.{Stmt}
@@ -16,10 +15,10 @@ use Rattle.heap_arena.specs.declared.error.MakeError.{MakeError}
 use Rattle.heap_arena.specs.declared.error.MakeError.TheVariants as error
 use Rattle.heap_arena.specs.declared.cell.Cell.TheVariants as value
 use Rattle.heap_arena.specs.Heap.{Heap, cell_count, default_of, most_cells}
+use Rattle.heap_arena.specs.State.{StoreState}
 use Rattle.evaluation.specs.declared.outcome.Outcome.{Outcome}
 use Rattle.evaluation.specs.declared.outcome.Outcome.TheVariants as outcome
 use Rattle.evaluation.specs.World.{World, gives}
-use Rattle.evaluation.specs.Objects.{field_types}
 use Rattle.evaluation.specs.Run.{arguments_heap, ending, ending_of, has_short_arguments, run, run_main, Ending}
 use Rattle.interpreter.specs.declared.frame.EarlyEnd.{EarlyEnd}
 use Rattle.interpreter.specs.declared.frame.EarlyEnd.TheVariants as early
@@ -33,12 +32,6 @@ use Rattle.interpreter.specs.declared.stop.RunStop.TheVariants as how
 -- the text of an argument
 abbrev pub text_of : {A : Type 0} → String A → List ℕ
 text_of argument = chars (string_bytes argument)
-
--- a store with no object and no mark, that has the program's field types
-pub record IsFresh (p : Program) (now : Heap) (marks : List Heap) (fields : List (List Ty)) : Type 0 where
-  pub no_object : now ≡ []
-  pub no_mark : marks ≡ []
-  pub fields_are : fields ≡ field_types p
 
 -- ---- stops
 
@@ -61,10 +54,15 @@ abbrev pub stopped : EarlyEnd → RunStop
 stopped early.OutOfMemory = how.OutOfMemory
 stopped (early.Refused error) = refusal error
 
--- the stop of a run with this ending, or none where it was stuck; the copy of a message may want memory
+-- the stop of a run with this ending, or none where it was stuck; memory may run out while a message is copied
 abbrev pub TellsEnd : Ending → Option RunStop → Type 0
 TellsEnd end None = end ≡ Ending.Stuck
 TellsEnd end (Some stop) = (stop ≡ how.OutOfMemory) ⊎ (told stop ≡ Some end)
+
+-- whether a call of the sink ended the run
+abbrev pub is_refused : Result Outcome EarlyEnd → Bool
+is_refused (Err (early.Refused error)) = true
+is_refused _ = false
 
 -- the stop of a run that ended so in this heap
 abbrev pub Tells : Heap → Result Outcome EarlyEnd → Option RunStop → Type 0
@@ -104,11 +102,16 @@ pub record IsBegun (main : Method) (args : List (List ℕ)) (now : Heap) (beginn
   pub short : has_short_arguments args ≡ true
   pub fits : nat_le (cell_count (arguments_heap args)) most_cells ≡ true
 
--- memory is wanting, or no run begins with these arguments
+-- a run with these arguments ends before its first step
+abbrev pub IsFullOf : What → List (List ℕ) → Type 0
+IsFullOf what args =
+    (p : Program) (w : World) → w.now ≡ arguments_heap args → run_main p args w ≡ gives (outcome.Full what) w
+
+-- memory ran out, or no run begins with these arguments
 abbrev pub IsRefused : List (List ℕ) → RunStop → Type 0
 IsRefused args stop =
     (stop ≡ how.OutOfMemory)
-    ⊎ ((what : What) × (stop ≡ how.Full what) × ((p : Program) (w : World) → w.now ≡ arguments_heap args → run_main p args w ≡ gives (outcome.Full what) w))
+    ⊎ ((what : What) × (stop ≡ how.Full what) × IsFullOf what args)
 
 abbrev pub BeginsAs : Method → List (List ℕ) → Heap → Result Beginning RunStop → Type 0
 BeginsAs main args now (Ok beginning) = IsBegun main args now beginning
@@ -116,8 +119,9 @@ BeginsAs main args now (Err stop) = IsRefused args stop
 
 -- ---- runs
 
--- the run with this budget ended so, its output was appended, and so many steps were taken
-pub record EndsWhole (p : Program) (args : List (List ℕ)) (budget : ℕ) (end : Ending) (before now : SinkState) (taken : ℕ) : Type 0 where
+-- the run with this budget ended so, its output was appended, and that many steps were taken
+pub record EndsWhole (p : Program) (args : List (List ℕ)) (budget : ℕ) (end : Ending)
+    (before now : SinkState) (taken : ℕ) : Type 0 where
   pub ending_is : ending (run p args budget []) ≡ end
   pub journal : (run p args budget []).world.journal ≡ []
   pub written : now.written ≡ with_bytes before.written (run p args budget []).out
@@ -142,12 +146,23 @@ abbrev pub FinishesIf : Option RunStop → Type 0
 FinishesIf None = ⊥
 FinishesIf (Some stop) = Finishes stop
 
--- a whole run of the machine that left this heap and these marks
-pub record EndsRun (p : Program) (args : List (List ℕ)) (budget : ℕ) (before after : SinkState) (now : Heap) (marks : List Heap) (taken : ℕ) (stop : Option RunStop) : Type 0 where
+-- the last call of the sink was refused with this error, and no call before it
+abbrev pub Refuses : PutError → SinkState → SinkState → Type 0
+Refuses put.WriteFault before now = Rose before.faults now.faults × (now.wants ≡ before.wants)
+Refuses put.OutOfMemory before now = (now.faults ≡ before.faults) × Rose before.wants now.wants
+
+-- a whole run of the machine: how it ended, what it left of the store, the steps that it took, and what it did to the sink
+pub record EndsRun (p : Program) (args : List (List ℕ)) (budget : ℕ) (before after : SinkState)
+    (store : StoreState) (taken : ℕ) (refused : Bool) (stop : Option RunStop) : Type 0 where
   pub ends : EndsIf p args budget before after taken stop
   pub within : taken ≤ budget
-  pub heap : FinishesIf stop → now ≡ (run p args budget []).world.now
-  pub marks_are : FinishesIf stop → marks ≡ []
+  pub heap : FinishesIf stop → store.now ≡ (run p args budget []).world.now
+  pub marks_are : FinishesIf stop → store.marks ≡ []
+  -- nothing was flushed
   pub flushed : NoFewer before.flushed after.flushed
+  pub flushes : after.flushes ≡ before.flushes
+  -- no call of the sink was refused, or only the last one, with the error that the stop tells
+  pub stands : refused ≡ false → (after.faults ≡ before.faults) × (after.wants ≡ before.wants)
+  pub refusal_is : IsTrue refused → (error : PutError) × (stop ≡ Some (refusal error)) × Refuses error before after
+  pub cause : stop ≡ Some how.WriteFault → IsTrue refused
   pub later : before.faults ≤ after.faults
-  pub cause : stop ≡ Some how.WriteFault → Rose before.faults after.faults

@@ -5,6 +5,7 @@ ghost use Rattle.std.specs.Str.{chars};
 ghost use Rattle.core_tree.specs.Text.{code_units, units_of};
 ghost use Rattle.heap_arena.specs.declared.error.MakeError.TheVariants as error;
 ghost use Rattle.heap_arena.specs.Heap.{cell_count, most_cells};
+ghost use Rattle.heap_arena.specs.State.{ChangesHeap};
 ghost use Rattle.evaluation.specs.Values.{most_units};
 ghost use Rattle.evaluation.specs.Run.{arguments_heap, has_short_arguments};
 ghost use Rattle.interpreter.specs.Machine.{text_of};
@@ -14,7 +15,7 @@ use heap_arena::{Cell, Kind, MakeError, Store};
 use object_cells::{make, write};
 use std::alloc::Global;
 
-/// A text has at most so many code units.
+/// A text has at most that many code units.
 const MOST_UNITS: u32 = 1_048_576;
 
 /// Whether an argument has too many code units.
@@ -66,12 +67,11 @@ pub fn put_arguments<S: Store>(
     args: &[String],
 ) -> Result<(), MakeError>
     requires short { IsTrue (has_short_arguments (map text_of args.now)) }
-    requires empty { S.now store.old ≡ [] }
-    ensures made { OnOk result (S.now store.new ≡ arguments_heap (map text_of args.now)) }
+    requires empty { (S.state store.old).now ≡ [] }
+    ensures made { OnOk result ((S.state store.new).now ≡ arguments_heap (map text_of args.now)) }
     ensures full { IsErrOf result error.Full → most_cells < cell_count (arguments_heap (map text_of args.now)) }
     ensures fits { OnOk result (cell_count (arguments_heap (map text_of args.now)) ≤ most_cells) }
-    ensures marks { S.marks store.new ≡ S.marks store.old }
-    ensures field_types { S.field_types store.new ≡ S.field_types store.old }
+    ensures others { ChangesHeap (S.state store.old) (S.state store.new) }
 {
     let Ok(count) = u32::try_from(args.len()) else {
         return Err(MakeError::Full);

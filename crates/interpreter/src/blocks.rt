@@ -6,7 +6,9 @@ ghost use Rattle.evaluation.specs.World.{gives};
 ghost use Rattle.evaluation.specs.Calls.{block};
 ghost use Rattle.evaluation.specs.Evaluate.{choose};
 ghost use Rattle.evaluation.specs.Execute.{after_body, body_of, turn};
-ghost use Rattle.interpreter.specs.Frames.{point, chosen, loop_of, next_turn, repeated, Goes, Turns, Leaves, FailsIn};
+ghost use Rattle.interpreter.specs.Frames.{loop_of, repeated};
+ghost use Rattle.interpreter.specs.Moves.{Goes, Turns, Leaves, FailsIn};
+ghost use Rattle.interpreter.specs.Functions.{chosen, next_turn};
 
 use crate::frame::{Focus, Frame, LoopFrame, LoopParts, NormalFrame, ValueFrame};
 use crate::running::Running;
@@ -18,11 +20,9 @@ use sqlite_items::Boxed;
 impl<'p, S: Store + Drop> Running<'p, S> {
     /// Statements in order, as long as each ends normally (JLS 14.2).
     pub fn block(&mut self, statements: &'p [Stmt]) -> Result<Focus<'p>, OutOfMemory>
-        ensures ok { IfOk result (Goes S.now S.marks S.field_types
-            (λ part. block self.old.program.now part statements.entry.now)
-            self.old self.new) }
-        ensures light { IfOk result (Leaves S.now S.marks S.field_types 0 self.old self.new) }
-        ensures err { OnErr result (FailsIn S.now S.marks S.field_types self.old self.new) }
+        ensures ok { IfOk result (Goes S.state (λ p part. block p part statements.entry.now) self.old self.new) }
+        ensures light { IfOk result (Leaves S.state 0 self.old self.new) }
+        ensures err { OnErr result (FailsIn S.state self.old self.new) }
     {
         match statements {
             [] => Ok(Focus::Answer(Outcome::Normal)),
@@ -40,11 +40,10 @@ impl<'p, S: Store + Drop> Running<'p, S> {
         body: &'p Boxed<Stmt>,
         other: &'p Option<Boxed<Stmt>>,
     ) -> Result<Focus<'p>, OutOfMemory>
-        ensures ok { IfOk result (Goes S.now S.marks S.field_types
-            (λ part. chosen part condition body.entry.now other.entry.now)
-            self.old self.new) }
-        ensures light { IfOk result (Leaves S.now S.marks S.field_types 0 self.old self.new) }
-        ensures err { OnErr result (FailsIn S.now S.marks S.field_types self.old self.new) }
+        ensures ok { IfOk result (Goes S.state
+            (λ p part. chosen part condition body.entry.now other.entry.now) self.old self.new) }
+        ensures light { IfOk result (Leaves S.state 0 self.old self.new) }
+        ensures err { OnErr result (FailsIn S.state self.old self.new) }
     {
         match condition {
             Cell::Bool(true) => self.stmt(body),
@@ -58,11 +57,9 @@ impl<'p, S: Store + Drop> Running<'p, S> {
 
     /// A turn of a loop: its condition, and where that is true its body (JLS 14.12, 14.14).
     pub fn turn(&mut self, parts: LoopParts<'p>) -> Result<Focus<'p>, OutOfMemory>
-        ensures ok { IfOk result (Goes S.now S.marks S.field_types
-            (λ part. turn self.old.program.now part (loop_of parts.entry))
-            self.old self.new) }
-        ensures light { IfOk result (Leaves S.now S.marks S.field_types 0 self.old self.new) }
-        ensures err { OnErr result (FailsIn S.now S.marks S.field_types self.old self.new) }
+        ensures ok { IfOk result (Goes S.state (λ p part. turn p part (loop_of parts.entry)) self.old self.new) }
+        ensures light { IfOk result (Leaves S.state 0 self.old self.new) }
+        ensures err { OnErr result (FailsIn S.state self.old self.new) }
     {
         match parts {
             LoopParts::While(test, _) => self.value_of(test, ValueFrame::LoopTest(parts)),
@@ -75,11 +72,9 @@ impl<'p, S: Store + Drop> Running<'p, S> {
 
     /// The body of a loop, and what comes after it.
     pub fn body(&mut self, parts: LoopParts<'p>) -> Result<Focus<'p>, OutOfMemory>
-        ensures ok { IfOk result (Goes S.now S.marks S.field_types
-            (λ part. body_of self.old.program.now part (loop_of parts.entry))
-            self.old self.new) }
-        ensures light { IfOk result (Leaves S.now S.marks S.field_types 0 self.old self.new) }
-        ensures err { OnErr result (FailsIn S.now S.marks S.field_types self.old self.new) }
+        ensures ok { IfOk result (Goes S.state (λ p part. body_of p part (loop_of parts.entry)) self.old self.new) }
+        ensures light { IfOk result (Leaves S.state 0 self.old self.new) }
+        ensures err { OnErr result (FailsIn S.state self.old self.new) }
     {
         self.push(Frame::Loop(LoopFrame::Body(parts)))?;
         match parts {
@@ -94,11 +89,11 @@ impl<'p, S: Store + Drop> Running<'p, S> {
         parts: LoopParts<'p>,
         condition: Cell<u32>,
     ) -> Result<Focus<'p>, OutOfMemory>
-        ensures ok { IfOk result (Goes S.now S.marks S.field_types
-            (λ part. choose condition (λ w. body_of self.old.program.now part (loop_of parts.entry) w) (gives outcome.Normal))
+        ensures ok { IfOk result (Goes S.state
+            (λ p part. choose condition (λ w. body_of p part (loop_of parts.entry) w) (gives outcome.Normal))
             self.old self.new) }
-        ensures light { IfOk result (Leaves S.now S.marks S.field_types 0 self.old self.new) }
-        ensures err { OnErr result (FailsIn S.now S.marks S.field_types self.old self.new) }
+        ensures light { IfOk result (Leaves S.state 0 self.old self.new) }
+        ensures err { OnErr result (FailsIn S.state self.old self.new) }
     {
         match condition {
             Cell::Bool(true) => self.body(parts),
@@ -109,11 +104,10 @@ impl<'p, S: Store + Drop> Running<'p, S> {
 
     /// What comes after the body of a loop: the updates and a further turn, unless it was left (JLS 14.14 to 14.16).
     pub fn after_body(&mut self, parts: LoopParts<'p>, o: Outcome) -> Result<Focus<'p>, OutOfMemory>
-        ensures ok { IfOk result (Turns S.now S.marks S.field_types
-            (λ part w. after_body self.old.program.now part (loop_of parts.entry) (gives o w))
-            self.old self.new) }
-        ensures light { IfOk result (Leaves S.now S.marks S.field_types 2 self.old self.new) }
-        ensures err { OnErr result (FailsIn S.now S.marks S.field_types self.old self.new) }
+        ensures ok { IfOk result (Turns S.state
+            (λ p part w. after_body p part (loop_of parts.entry) (gives o w)) self.old self.new) }
+        ensures light { IfOk result (Leaves S.state 2 self.old self.new) }
+        ensures err { OnErr result (FailsIn S.state self.old self.new) }
     {
         match o {
             Outcome::Normal | Outcome::Continue => self.next_turn(parts),
@@ -129,31 +123,27 @@ impl<'p, S: Store + Drop> Running<'p, S> {
 
     // A loop that ended so.
     fn leave_loop(&mut self, o: Outcome) -> Result<Focus<'p>, OutOfMemory>
-        ensures ok { IfOk result (Turns S.now S.marks S.field_types (λ part. gives o) self.old self.new) }
-        ensures light { IfOk result (Leaves S.now S.marks S.field_types 0 self.old self.new) }
-        ensures err { OnErr result (FailsIn S.now S.marks S.field_types self.old self.new) }
+        ensures ok { IfOk result (Turns S.state (λ p part. gives o) self.old self.new) }
+        ensures light { IfOk result (Leaves S.state 0 self.old self.new) }
+        ensures err { OnErr result (FailsIn S.state self.old self.new) }
     {
         Ok(Focus::Answer(o))
     }
 
     // A further turn of a loop.
     fn again(&mut self, parts: LoopParts<'p>) -> Result<Focus<'p>, OutOfMemory>
-        ensures ok { IfOk result (Turns S.now S.marks S.field_types
-            (λ part. part.loop (loop_of parts.entry))
-            self.old self.new) }
-        ensures light { IfOk result (Leaves S.now S.marks S.field_types 2 self.old self.new) }
-        ensures err { OnErr result (FailsIn S.now S.marks S.field_types self.old self.new) }
+        ensures ok { IfOk result (Turns S.state (λ p part. part.loop (loop_of parts.entry)) self.old self.new) }
+        ensures light { IfOk result (Leaves S.state 2 self.old self.new) }
+        ensures err { OnErr result (FailsIn S.state self.old self.new) }
     {
         Ok(Focus::Loop(parts))
     }
 
     // The updates of a loop and a further turn.
     fn next_turn(&mut self, parts: LoopParts<'p>) -> Result<Focus<'p>, OutOfMemory>
-        ensures ok { IfOk result (Turns S.now S.marks S.field_types
-            (λ part. next_turn self.old.program.now part (loop_of parts.entry))
-            self.old self.new) }
-        ensures light { IfOk result (Leaves S.now S.marks S.field_types 2 self.old self.new) }
-        ensures err { OnErr result (FailsIn S.now S.marks S.field_types self.old self.new) }
+        ensures ok { IfOk result (Turns S.state (λ p part. next_turn p part (loop_of parts.entry)) self.old self.new) }
+        ensures light { IfOk result (Leaves S.state 2 self.old self.new) }
+        ensures err { OnErr result (FailsIn S.state self.old self.new) }
     {
         match parts {
             LoopParts::While(_, _) => self.again(parts),
@@ -174,11 +164,10 @@ impl<'p, S: Store + Drop> Running<'p, S> {
         frame: LoopFrame<'p>,
         o: Outcome,
     ) -> Result<Focus<'p>, OutOfMemory>
-        ensures ok { IfOk result (Turns S.now S.marks S.field_types
-            (λ part w. repeated self.old.program.now part frame.entry (gives o w))
-            self.old self.new) }
-        ensures light { IfOk result (Leaves S.now S.marks S.field_types 2 self.old self.new) }
-        ensures err { OnErr result (FailsIn S.now S.marks S.field_types self.old self.new) }
+        ensures ok { IfOk result (Turns S.state
+            (λ p part w. repeated p part frame.entry (gives o w)) self.old self.new) }
+        ensures light { IfOk result (Leaves S.state 2 self.old self.new) }
+        ensures err { OnErr result (FailsIn S.state self.old self.new) }
     {
         match frame {
             LoopFrame::Body(parts) => self.after_body(parts, o),

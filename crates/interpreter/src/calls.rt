@@ -6,7 +6,11 @@ ghost use Rattle.evaluation.specs.Calls.{arguments, built_in_message, construct,
 ghost use Rattle.evaluation.specs.World.{value_then};
 ghost use Rattle.core_tree.specs.Typing.{chosen_number};
 ghost use Rattle.interpreter.specs.declared.frame.Callee.TheVariants as callee;
-ghost use Rattle.interpreter.specs.Frames.{point, called_with, call_weight, dispatch_at, Begins, Goes, Leaves, FailsIn, HasFields};
+ghost use Rattle.interpreter.specs.Frames.{called_with};
+ghost use Rattle.interpreter.specs.Setting.{point, HasFields};
+ghost use Rattle.interpreter.specs.Weights.{call_weight};
+ghost use Rattle.interpreter.specs.Moves.{Begins, Goes, Leaves, FailsIn};
+ghost use Rattle.interpreter.specs.Functions.{dispatch_at};
 
 use crate::frame::{CallEnd, CallFrame, Callee, Focus, Frame, NormalFrame, PlainFrame};
 use crate::running::Running;
@@ -16,7 +20,7 @@ use heap_arena::{Cell, Store};
 use object_cells::class_at;
 use sqlite_items::{Boxed, Items};
 
-/// A run has at most so many live calls.
+/// A run has at most that many live calls.
 pub const MOST_LIVE: u32 = 65_536;
 
 /// The selector of `getMessage`.
@@ -33,11 +37,13 @@ impl<'p, S: Store + Drop> Running<'p, S> {
         selector: u32,
         given: &'p Items<Expr>,
     ) -> Result<Focus<'p>, OutOfMemory>
-        ensures ok { IfOk result (Goes S.now S.marks S.field_types
-            (λ part w. value_then (λ o. arguments self.old.program.now part given.entry.now [] (dispatch self.old.program.now part selector o)) (part.expr object.entry.now w))
+        ensures ok { IfOk result (Goes S.state
+            (λ p part w.
+            value_then (λ o. arguments p part given.entry.now [] (dispatch p part selector o))
+            (part.expr object.entry.now w))
             self.old self.new) }
-        ensures light { IfOk result (Leaves S.now S.marks S.field_types 0 self.old self.new) }
-        ensures err { OnErr result (FailsIn S.now S.marks S.field_types self.old self.new) }
+        ensures light { IfOk result (Leaves S.state 0 self.old self.new) }
+        ensures err { OnErr result (FailsIn S.state self.old self.new) }
     {
         self.push(Frame::Call(CallFrame::Receiver(selector, given.as_slice())))?;
         Ok(Focus::Expr(object.get()))
@@ -45,24 +51,22 @@ impl<'p, S: Store + Drop> Running<'p, S> {
 
     /// A call of a static method.
     pub fn static_call(&mut self, m: u32, given: &'p Items<Expr>) -> Result<Focus<'p>, OutOfMemory>
-        requires fields { HasFields (point S.now S.marks S.field_types self.old) }
-        ensures ok { IfOk result (Goes S.now S.marks S.field_types
-            (λ part. arguments self.old.program.now part given.entry.now [] (invoke self.old.program.now part m None))
-            self.old self.new) }
-        ensures light { IfOk result (Leaves S.now S.marks S.field_types 2 self.old self.new) }
-        ensures err { OnErr result (FailsIn S.now S.marks S.field_types self.old self.new) }
+        requires fields { HasFields (point S.state self.old) }
+        ensures ok { IfOk result (Goes S.state
+            (λ p part. arguments p part given.entry.now [] (invoke p part m None)) self.old self.new) }
+        ensures light { IfOk result (Leaves S.state 2 self.old self.new) }
+        ensures err { OnErr result (FailsIn S.state self.old self.new) }
     {
         self.arguments(Callee::Static(m), given.as_slice(), Items::new(self.alloc))
     }
 
     /// A call of a method on `this`, whatever the run-time class of `this` is (JLS 15.12.4.4).
     pub fn super_call(&mut self, m: u32, given: &'p Items<Expr>) -> Result<Focus<'p>, OutOfMemory>
-        requires fields { HasFields (point S.now S.marks S.field_types self.old) }
-        ensures ok { IfOk result (Goes S.now S.marks S.field_types
-            (λ part w. arguments self.old.program.now part given.entry.now [] (invoke self.old.program.now part m w.this) w)
-            self.old self.new) }
-        ensures light { IfOk result (Leaves S.now S.marks S.field_types 2 self.old self.new) }
-        ensures err { OnErr result (FailsIn S.now S.marks S.field_types self.old self.new) }
+        requires fields { HasFields (point S.state self.old) }
+        ensures ok { IfOk result (Goes S.state
+            (λ p part w. arguments p part given.entry.now [] (invoke p part m w.this) w) self.old self.new) }
+        ensures light { IfOk result (Leaves S.state 2 self.old self.new) }
+        ensures err { OnErr result (FailsIn S.state self.old self.new) }
     {
         self.arguments(
             Callee::Super(m, self.this),
@@ -71,7 +75,7 @@ impl<'p, S: Store + Drop> Running<'p, S> {
         )
     }
 
-    /// The run of a superclass's constructor for an object, for which so many superclasses may come.
+    /// The run of a superclass's constructor for an object, for which that many superclasses may come.
     pub fn parent_call(
         &mut self,
         k: u32,
@@ -79,12 +83,11 @@ impl<'p, S: Store + Drop> Running<'p, S> {
         given: &'p Items<Expr>,
         levels: usize,
     ) -> Result<Focus<'p>, OutOfMemory>
-        requires fields { HasFields (point S.now S.marks S.field_types self.old) }
-        ensures ok { IfOk result (Goes S.now S.marks S.field_types
-            (λ part. arguments self.old.program.now part given.entry.now [] (construct self.old.program.now part levels k o))
-            self.old self.new) }
-        ensures light { IfOk result (Leaves S.now S.marks S.field_types (6 * (levels + 1) + 2) self.old self.new) }
-        ensures err { OnErr result (FailsIn S.now S.marks S.field_types self.old self.new) }
+        requires fields { HasFields (point S.state self.old) }
+        ensures ok { IfOk result (Goes S.state
+            (λ p part. arguments p part given.entry.now [] (construct p part levels k o)) self.old self.new) }
+        ensures light { IfOk result (Leaves S.state (6 * (levels + 1) + 2) self.old self.new) }
+        ensures err { OnErr result (FailsIn S.state self.old self.new) }
     {
         self.arguments(
             Callee::Parent(k, o, levels),
@@ -93,19 +96,19 @@ impl<'p, S: Store + Drop> Running<'p, S> {
         )
     }
 
-    /// Arguments from left to right behind those that are there, and then the call (JLS 15.7.4).
+    /// Arguments from left to right after those that are there, and then the call (JLS 15.7.4).
     pub fn arguments(
         &mut self,
         callee: Callee,
         given: &'p [Expr],
         got: Items<Cell<u32>>,
     ) -> Result<Focus<'p>, OutOfMemory>
-        requires fields { HasFields (point S.now S.marks S.field_types self.old) }
-        ensures ok { IfOk result (Goes S.now S.marks S.field_types
-            (λ part. arguments self.old.program.now part given.entry.now got (called_with self.old.program.now part callee))
-            self.old self.new) }
-        ensures light { IfOk result (Leaves S.now S.marks S.field_types (call_weight (length self.old.program.now.classes) callee) self.old self.new) }
-        ensures err { OnErr result (FailsIn S.now S.marks S.field_types self.old self.new) }
+        requires fields { HasFields (point S.state self.old) }
+        ensures ok { IfOk result (Goes S.state
+            (λ p part. arguments p part given.entry.now got (called_with p part callee)) self.old self.new) }
+        ensures light { IfOk result (Leaves S.state
+            (call_weight (length self.old.program.now.classes) callee) self.old self.new) }
+        ensures err { OnErr result (FailsIn S.state self.old self.new) }
     {
         match given {
             [] => self.call(callee, got),
@@ -118,12 +121,11 @@ impl<'p, S: Store + Drop> Running<'p, S> {
 
     // A call whose arguments are there.
     fn call(&mut self, callee: Callee, got: Items<Cell<u32>>) -> Result<Focus<'p>, OutOfMemory>
-        requires fields { HasFields (point S.now S.marks S.field_types self.old) }
-        ensures ok { IfOk result (Goes S.now S.marks S.field_types
-            (λ part. called_with self.old.program.now part callee got)
-            self.old self.new) }
-        ensures light { IfOk result (Leaves S.now S.marks S.field_types (call_weight (length self.old.program.now.classes) callee) self.old self.new) }
-        ensures err { OnErr result (FailsIn S.now S.marks S.field_types self.old self.new) }
+        requires fields { HasFields (point S.state self.old) }
+        ensures ok { IfOk result (Goes S.state (λ p part. called_with p part callee got) self.old self.new) }
+        ensures light { IfOk result (Leaves S.state
+            (call_weight (length self.old.program.now.classes) callee) self.old self.new) }
+        ensures err { OnErr result (FailsIn S.state self.old self.new) }
     {
         match callee {
             Callee::Static(m) => self.invoke(m, None, got),
@@ -142,11 +144,10 @@ impl<'p, S: Store + Drop> Running<'p, S> {
         got: Items<Cell<u32>>,
         levels: usize,
     ) -> Result<Focus<'p>, OutOfMemory>
-        ensures ok { IfOk result (Goes S.now S.marks S.field_types
-            (λ part. construct self.old.program.now part levels k o got)
-            self.old self.new) }
-        ensures light { IfOk result (Leaves S.now S.marks S.field_types (call_weight (length self.old.program.now.classes) (callee.Parent k o levels)) self.old self.new) }
-        ensures err { OnErr result (FailsIn S.now S.marks S.field_types self.old self.new) }
+        ensures ok { IfOk result (Goes S.state (λ p part. construct p part levels k o got) self.old self.new) }
+        ensures light { IfOk result (Leaves S.state
+            (call_weight (length self.old.program.now.classes) (callee.Parent k o levels)) self.old self.new) }
+        ensures err { OnErr result (FailsIn S.state self.old self.new) }
     {
         Ok(Focus::Construct(k, o, got, levels))
     }
@@ -158,11 +159,10 @@ impl<'p, S: Store + Drop> Running<'p, S> {
         o: u32,
         got: Items<Cell<u32>>,
     ) -> Result<Focus<'p>, OutOfMemory>
-        ensures ok { IfOk result (Goes S.now S.marks S.field_types
-            (λ part. called_with self.old.program.now part (callee.New k o) got)
-            self.old self.new) }
-        ensures light { IfOk result (Leaves S.now S.marks S.field_types (call_weight (length self.old.program.now.classes) (callee.New k o)) self.old self.new) }
-        ensures err { OnErr result (FailsIn S.now S.marks S.field_types self.old self.new) }
+        ensures ok { IfOk result (Goes S.state (λ p part. called_with p part (callee.New k o) got) self.old self.new) }
+        ensures light { IfOk result (Leaves S.state
+            (call_weight (length self.old.program.now.classes) (callee.New k o)) self.old self.new) }
+        ensures err { OnErr result (FailsIn S.state self.old self.new) }
     {
         let levels = self.program.classes.len();
         self.push(Frame::Normal(NormalFrame::New(o)))?;
@@ -176,12 +176,10 @@ impl<'p, S: Store + Drop> Running<'p, S> {
         object: Cell<u32>,
         got: Items<Cell<u32>>,
     ) -> Result<Focus<'p>, OutOfMemory>
-        requires fields { HasFields (point S.now S.marks S.field_types self.old) }
-        ensures ok { IfOk result (Goes S.now S.marks S.field_types
-            (λ part. dispatch self.old.program.now part selector object got)
-            self.old self.new) }
-        ensures light { IfOk result (Leaves S.now S.marks S.field_types 2 self.old self.new) }
-        ensures err { OnErr result (FailsIn S.now S.marks S.field_types self.old self.new) }
+        requires fields { HasFields (point S.state self.old) }
+        ensures ok { IfOk result (Goes S.state (λ p part. dispatch p part selector object got) self.old self.new) }
+        ensures light { IfOk result (Leaves S.state 2 self.old self.new) }
+        ensures err { OnErr result (FailsIn S.state self.old self.new) }
     {
         match object {
             Cell::Null => self.trap(BuiltIn::NullPointerException),
@@ -197,12 +195,10 @@ impl<'p, S: Store + Drop> Running<'p, S> {
         o: u32,
         got: Items<Cell<u32>>,
     ) -> Result<Focus<'p>, OutOfMemory>
-        requires fields { HasFields (point S.now S.marks S.field_types self.old) }
-        ensures ok { IfOk result (Goes S.now S.marks S.field_types
-            (λ part. dispatch_at self.old.program.now part selector o got)
-            self.old self.new) }
-        ensures light { IfOk result (Leaves S.now S.marks S.field_types 2 self.old self.new) }
-        ensures err { OnErr result (FailsIn S.now S.marks S.field_types self.old self.new) }
+        requires fields { HasFields (point S.state self.old) }
+        ensures ok { IfOk result (Goes S.state (λ p part. dispatch_at p part selector o got) self.old self.new) }
+        ensures light { IfOk result (Leaves S.state 2 self.old self.new) }
+        ensures err { OnErr result (FailsIn S.state self.old self.new) }
     {
         match class_at(&self.store, o) {
             Some(class) => match self.chosen(class, selector) {
@@ -227,11 +223,9 @@ impl<'p, S: Store + Drop> Running<'p, S> {
 
     // A selector that picks no method: `getMessage` reads the message.
     fn built_in_message(&mut self, selector: u32, o: u32) -> Result<Focus<'p>, OutOfMemory>
-        ensures ok { IfOk result (Goes S.now S.marks S.field_types
-            (λ part. built_in_message self.old.program.now part selector o)
-            self.old self.new) }
-        ensures light { IfOk result (Leaves S.now S.marks S.field_types 0 self.old self.new) }
-        ensures err { OnErr result (FailsIn S.now S.marks S.field_types self.old self.new) }
+        ensures ok { IfOk result (Goes S.state (λ p part. built_in_message p part selector o) self.old self.new) }
+        ensures light { IfOk result (Leaves S.state 0 self.old self.new) }
+        ensures err { OnErr result (FailsIn S.state self.old self.new) }
     {
         if selector == MESSAGE_SELECTOR {
             self.read_place(Place::Cell(o, MESSAGE_PLACE))
@@ -247,12 +241,10 @@ impl<'p, S: Store + Drop> Running<'p, S> {
         this: Option<u32>,
         got: Items<Cell<u32>>,
     ) -> Result<Focus<'p>, OutOfMemory>
-        requires fields { HasFields (point S.now S.marks S.field_types self.old) }
-        ensures ok { IfOk result (Goes S.now S.marks S.field_types
-            (λ part. invoke self.old.program.now part m this got)
-            self.old self.new) }
-        ensures light { IfOk result (Leaves S.now S.marks S.field_types 2 self.old self.new) }
-        ensures err { OnErr result (FailsIn S.now S.marks S.field_types self.old self.new) }
+        requires fields { HasFields (point S.state self.old) }
+        ensures ok { IfOk result (Goes S.state (λ p part. invoke p part m this got) self.old self.new) }
+        ensures light { IfOk result (Leaves S.state 2 self.old self.new) }
+        ensures err { OnErr result (FailsIn S.state self.old self.new) }
     {
         match self.program.methods.get(m as usize) {
             Some(method) => self.run_method(method, this, got),
@@ -267,12 +259,11 @@ impl<'p, S: Store + Drop> Running<'p, S> {
         this: Option<u32>,
         got: Items<Cell<u32>>,
     ) -> Result<Focus<'p>, OutOfMemory>
-        requires fields { HasFields (point S.now S.marks S.field_types self.old) }
-        ensures ok { IfOk result (Goes S.now S.marks S.field_types
-            (λ part. run_method self.old.program.now part method.entry.now this got)
-            self.old self.new) }
-        ensures light { IfOk result (Leaves S.now S.marks S.field_types 2 self.old self.new) }
-        ensures err { OnErr result (FailsIn S.now S.marks S.field_types self.old self.new) }
+        requires fields { HasFields (point S.state self.old) }
+        ensures ok { IfOk result (Goes S.state
+            (λ p part. run_method p part method.entry.now this got) self.old self.new) }
+        ensures light { IfOk result (Leaves S.state 2 self.old self.new) }
+        ensures err { OnErr result (FailsIn S.state self.old self.new) }
     {
         if self.live < MOST_LIVE {
             self.begin(CallEnd::Method(&method.answer), this, got, &method.locals)?;
@@ -292,8 +283,8 @@ impl<'p, S: Store + Drop> Running<'p, S> {
     ) -> Result<(), OutOfMemory>
         requires { self.old.live < most_live }
         ensures ok { OnOk result (Begins end.entry this (got ++ map default_of locals.now)
-            (point S.now S.marks S.field_types self.old) (point S.now S.marks S.field_types self.new)) }
-        ensures err { OnErr result (FailsIn S.now S.marks S.field_types self.old self.new) }
+            (point S.state self.old) (point S.state self.new)) }
+        ensures err { OnErr result (FailsIn S.state self.old self.new) }
     {
         let locals = with_defaults(got, locals.as_slice())?;
         let callers = std::mem::replace(&mut self.locals, locals);
@@ -304,7 +295,7 @@ impl<'p, S: Store + Drop> Running<'p, S> {
     }
 }
 
-/// The arguments, and behind them the defaults of these types.
+/// The arguments, followed by the defaults of these types.
 pub fn with_defaults(got: Items<Cell<u32>>, types: &[Ty]) -> Result<Items<Cell<u32>>, OutOfMemory>
     ensures { IfOk result (λ locals. locals ≡ got ++ map default_of types.now) }
 {

@@ -4,7 +4,9 @@ ghost use Rattle.std.specs.Prelude.{◌≡◌, IfOk, OnErr, Some};
 ghost use Rattle.evaluation.specs.Values.{update_value};
 ghost use Rattle.evaluation.specs.Objects.{computed, read_cell, read_place, store, write_cell, write_place};
 ghost use Rattle.evaluation.specs.Execute.{update_place};
-ghost use Rattle.interpreter.specs.Frames.{point, may_store, place_value, updated, updated_with, Goes, Leaves, FailsIn, HasFields};
+ghost use Rattle.interpreter.specs.Setting.{point, HasFields};
+ghost use Rattle.interpreter.specs.Moves.{Goes, Leaves, FailsIn};
+ghost use Rattle.interpreter.specs.Functions.{may_store, place_value, updated, updated_with};
 
 use crate::frame::{Focus, ValueFrame};
 use crate::running::Running;
@@ -18,7 +20,7 @@ use value_operators::update_value;
 impl<'p, S: Store + Drop> Running<'p, S> {
     /// The value at a place, or `None` where there is no such place.
     pub fn value_at(&self, place: Place) -> Result<Option<Cell<u32>>, OutOfMemory>
-        ensures { IfOk result (λ v. v ≡ place_value self.now.locals (S.now self.now.store) place) }
+        ensures { IfOk result (λ v. v ≡ place_value self.now.locals (S.state self.now.store).now place) }
     {
         match place {
             Place::Local(at) => match self.locals.get(at as usize) {
@@ -31,9 +33,9 @@ impl<'p, S: Store + Drop> Running<'p, S> {
 
     /// The value at a place.
     pub fn read_place(&mut self, place: Place) -> Result<Focus<'p>, OutOfMemory>
-        ensures ok { IfOk result (Goes S.now S.marks S.field_types (λ part. read_place place) self.old self.new) }
-        ensures light { IfOk result (Leaves S.now S.marks S.field_types 0 self.old self.new) }
-        ensures err { OnErr result (FailsIn S.now S.marks S.field_types self.old self.new) }
+        ensures ok { IfOk result (Goes S.state (λ p part. read_place place) self.old self.new) }
+        ensures light { IfOk result (Leaves S.state 0 self.old self.new) }
+        ensures err { OnErr result (FailsIn S.state self.old self.new) }
     {
         match self.value_at(place)? {
             Some(v) => Ok(Focus::Answer(Outcome::Value(v))),
@@ -43,9 +45,9 @@ impl<'p, S: Store + Drop> Running<'p, S> {
 
     /// Gives a cell of an object a value.
     pub fn write_cell(&mut self, o: u32, at: u32, v: Cell<u32>) -> Result<Focus<'p>, OutOfMemory>
-        ensures ok { IfOk result (Goes S.now S.marks S.field_types (λ part. write_cell o at v) self.old self.new) }
-        ensures light { IfOk result (Leaves S.now S.marks S.field_types 0 self.old self.new) }
-        ensures err { OnErr result (FailsIn S.now S.marks S.field_types self.old self.new) }
+        ensures ok { IfOk result (Goes S.state (λ p part. write_cell o at v) self.old self.new) }
+        ensures light { IfOk result (Leaves S.state 0 self.old self.new) }
+        ensures err { OnErr result (FailsIn S.state self.old self.new) }
     {
         if write(&mut self.store, o, at, v)? {
             Ok(Focus::Answer(Outcome::Normal))
@@ -56,9 +58,9 @@ impl<'p, S: Store + Drop> Running<'p, S> {
 
     /// The same, where the place may be any number.
     pub fn write_at(&mut self, o: u32, at: usize, v: Cell<u32>) -> Result<Focus<'p>, OutOfMemory>
-        ensures ok { IfOk result (Goes S.now S.marks S.field_types (λ part. write_cell o at v) self.old self.new) }
-        ensures light { IfOk result (Leaves S.now S.marks S.field_types 0 self.old self.new) }
-        ensures err { OnErr result (FailsIn S.now S.marks S.field_types self.old self.new) }
+        ensures ok { IfOk result (Goes S.state (λ p part. write_cell o at v) self.old self.new) }
+        ensures light { IfOk result (Leaves S.state 0 self.old self.new) }
+        ensures err { OnErr result (FailsIn S.state self.old self.new) }
     {
         match u32::try_from(at) {
             Ok(at) => self.write_cell(o, at, v),
@@ -68,7 +70,7 @@ impl<'p, S: Store + Drop> Running<'p, S> {
 
     // Whether a value may be a cell of an object: an array takes what fits its elements (JLS 10.5).
     fn may_store(&self, o: u32, v: &Cell<u32>) -> bool
-        ensures { result ≡ may_store self.now.program.now (S.now self.now.store) o v.now }
+        ensures { result ≡ may_store self.now.program.now (S.state self.now.store).now o v.now }
     {
         match elements_at(&self.store, o) {
             Some(elements) => match v {
@@ -81,12 +83,10 @@ impl<'p, S: Store + Drop> Running<'p, S> {
 
     // Gives a field or an element a value (JLS 10.5).
     fn store_cell(&mut self, o: u32, at: u32, v: Cell<u32>) -> Result<Focus<'p>, OutOfMemory>
-        requires fields { HasFields (point S.now S.marks S.field_types self.old) }
-        ensures ok { IfOk result (Goes S.now S.marks S.field_types
-            (λ part. store self.old.program.now o at v)
-            self.old self.new) }
-        ensures light { IfOk result (Leaves S.now S.marks S.field_types 0 self.old self.new) }
-        ensures err { OnErr result (FailsIn S.now S.marks S.field_types self.old self.new) }
+        requires fields { HasFields (point S.state self.old) }
+        ensures ok { IfOk result (Goes S.state (λ p part. store p o at v) self.old self.new) }
+        ensures light { IfOk result (Leaves S.state 0 self.old self.new) }
+        ensures err { OnErr result (FailsIn S.state self.old self.new) }
     {
         if self.may_store(o, &v) {
             self.write_cell(o, at, v)
@@ -97,12 +97,10 @@ impl<'p, S: Store + Drop> Running<'p, S> {
 
     /// Gives what an assignment writes to a value.
     pub fn write_place(&mut self, place: Place, v: Cell<u32>) -> Result<Focus<'p>, OutOfMemory>
-        requires fields { HasFields (point S.now S.marks S.field_types self.old) }
-        ensures ok { IfOk result (Goes S.now S.marks S.field_types
-            (λ part. write_place self.old.program.now place v)
-            self.old self.new) }
-        ensures light { IfOk result (Leaves S.now S.marks S.field_types 0 self.old self.new) }
-        ensures err { OnErr result (FailsIn S.now S.marks S.field_types self.old self.new) }
+        requires fields { HasFields (point S.state self.old) }
+        ensures ok { IfOk result (Goes S.state (λ p part. write_place p place v) self.old self.new) }
+        ensures light { IfOk result (Leaves S.state 0 self.old self.new) }
+        ensures err { OnErr result (FailsIn S.state self.old self.new) }
     {
         match place {
             Place::Local(at) => self.write_local(at, v),
@@ -117,12 +115,11 @@ impl<'p, S: Store + Drop> Running<'p, S> {
         operand: &'p Option<Boxed<Expr>>,
         place: Place,
     ) -> Result<Focus<'p>, OutOfMemory>
-        requires fields { HasFields (point S.now S.marks S.field_types self.old) }
-        ensures ok { IfOk result (Goes S.now S.marks S.field_types
-            (λ part. update_place self.old.program.now part op operand.entry.now place)
-            self.old self.new) }
-        ensures light { IfOk result (Leaves S.now S.marks S.field_types 0 self.old self.new) }
-        ensures err { OnErr result (FailsIn S.now S.marks S.field_types self.old self.new) }
+        requires fields { HasFields (point S.state self.old) }
+        ensures ok { IfOk result (Goes S.state
+            (λ p part. update_place p part op operand.entry.now place) self.old self.new) }
+        ensures light { IfOk result (Leaves S.state 0 self.old self.new) }
+        ensures err { OnErr result (FailsIn S.state self.old self.new) }
     {
         match self.value_at(place)? {
             Some(old) => self.update_with(op, old, place, operand),
@@ -138,12 +135,11 @@ impl<'p, S: Store + Drop> Running<'p, S> {
         place: Place,
         operand: &'p Option<Boxed<Expr>>,
     ) -> Result<Focus<'p>, OutOfMemory>
-        requires fields { HasFields (point S.now S.marks S.field_types self.old) }
-        ensures ok { IfOk result (Goes S.now S.marks S.field_types
-            (λ part. updated_with self.old.program.now part op old place operand.entry.now)
-            self.old self.new) }
-        ensures light { IfOk result (Leaves S.now S.marks S.field_types 0 self.old self.new) }
-        ensures err { OnErr result (FailsIn S.now S.marks S.field_types self.old self.new) }
+        requires fields { HasFields (point S.state self.old) }
+        ensures ok { IfOk result (Goes S.state
+            (λ p part. updated_with p part op old place operand.entry.now) self.old self.new) }
+        ensures light { IfOk result (Leaves S.state 0 self.old self.new) }
+        ensures err { OnErr result (FailsIn S.state self.old self.new) }
     {
         match operand {
             Some(e) => self.update_by(op, old, place, e),
@@ -159,11 +155,10 @@ impl<'p, S: Store + Drop> Running<'p, S> {
         place: Place,
         operand: &'p Boxed<Expr>,
     ) -> Result<Focus<'p>, OutOfMemory>
-        ensures ok { IfOk result (Goes S.now S.marks S.field_types
-            (λ part. updated_with self.old.program.now part op old place (Some operand.entry.now))
-            self.old self.new) }
-        ensures light { IfOk result (Leaves S.now S.marks S.field_types 0 self.old self.new) }
-        ensures err { OnErr result (FailsIn S.now S.marks S.field_types self.old self.new) }
+        ensures ok { IfOk result (Goes S.state
+            (λ p part. updated_with p part op old place (Some operand.entry.now)) self.old self.new) }
+        ensures light { IfOk result (Leaves S.state 0 self.old self.new) }
+        ensures err { OnErr result (FailsIn S.state self.old self.new) }
     {
         self.value_of(operand, ValueFrame::Update(op, old, place))
     }
@@ -176,12 +171,10 @@ impl<'p, S: Store + Drop> Running<'p, S> {
         place: Place,
         v: Cell<u32>,
     ) -> Result<Focus<'p>, OutOfMemory>
-        requires fields { HasFields (point S.now S.marks S.field_types self.old) }
-        ensures ok { IfOk result (Goes S.now S.marks S.field_types
-            (λ part. updated self.old.program.now op old place v)
-            self.old self.new) }
-        ensures light { IfOk result (Leaves S.now S.marks S.field_types 0 self.old self.new) }
-        ensures err { OnErr result (FailsIn S.now S.marks S.field_types self.old self.new) }
+        requires fields { HasFields (point S.state self.old) }
+        ensures ok { IfOk result (Goes S.state (λ p part. updated p op old place v) self.old self.new) }
+        ensures light { IfOk result (Leaves S.state 0 self.old self.new) }
+        ensures err { OnErr result (FailsIn S.state self.old self.new) }
     {
         match update_value(self.alloc, op, &old, &v)? {
             Computed::Gives(v) => self.write_place(place, v),

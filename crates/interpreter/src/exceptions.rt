@@ -4,7 +4,7 @@ ghost use Rattle.std.specs.Prelude.{◌≡◌, IfOk, OnErr};
 ghost use Rattle.std.specs.Option.{option_copied};
 ghost use Rattle.evaluation.specs.World.{gives};
 ghost use Rattle.evaluation.specs.Execute.{catch_object, catching, finally, finally_if, handled, handler, keeping};
-ghost use Rattle.interpreter.specs.Frames.{point, Weighs, Goes, Leaves, FailsIn};
+ghost use Rattle.interpreter.specs.Moves.{Goes, Leaves, FailsIn, Adds};
 
 use crate::frame::{Focus, Frame, PlainFrame};
 use crate::running::Running;
@@ -23,11 +23,11 @@ impl<'p, S: Store + Drop> Running<'p, S> {
         catches: &'p Items<Catch>,
         last: &'p Option<Boxed<Stmt>>,
     ) -> Result<Focus<'p>, OutOfMemory>
-        ensures ok { IfOk result (Goes S.now S.marks S.field_types
-            (λ part w. finally_if self.old.program.now part last.entry.now (catching self.old.program.now part catches.entry.now (part.stmt body.entry.now w)))
+        ensures ok { IfOk result (Goes S.state
+            (λ p part w. finally_if p part last.entry.now (catching p part catches.entry.now (part.stmt body.entry.now w)))
             self.old self.new) }
-        ensures light { IfOk result (Leaves S.now S.marks S.field_types 0 self.old self.new) }
-        ensures err { OnErr result (FailsIn S.now S.marks S.field_types self.old self.new) }
+        ensures light { IfOk result (Leaves S.state 0 self.old self.new) }
+        ensures err { OnErr result (FailsIn S.state self.old self.new) }
     {
         match last {
             Some(last) => self.enter_finally(body, catches, last),
@@ -42,11 +42,12 @@ impl<'p, S: Store + Drop> Running<'p, S> {
         catches: &'p Items<Catch>,
         last: &'p Boxed<Stmt>,
     ) -> Result<Focus<'p>, OutOfMemory>
-        ensures ok { IfOk result (Goes S.now S.marks S.field_types
-            (λ part w. finally (part.stmt last.entry.now) (catching self.old.program.now part catches.entry.now (part.stmt body.entry.now w)))
+        ensures ok { IfOk result (Goes S.state
+            (λ p part w. finally (part.stmt last.entry.now)
+            (catching p part catches.entry.now (part.stmt body.entry.now w)))
             self.old self.new) }
-        ensures light { IfOk result (Leaves S.now S.marks S.field_types 0 self.old self.new) }
-        ensures err { OnErr result (FailsIn S.now S.marks S.field_types self.old self.new) }
+        ensures light { IfOk result (Leaves S.state 0 self.old self.new) }
+        ensures err { OnErr result (FailsIn S.state self.old self.new) }
     {
         self.push(Frame::Plain(PlainFrame::Finally(last)))?;
         self.enter_catches(body, catches)
@@ -58,12 +59,10 @@ impl<'p, S: Store + Drop> Running<'p, S> {
         body: &'p Boxed<Stmt>,
         catches: &'p Items<Catch>,
     ) -> Result<Focus<'p>, OutOfMemory>
-        ensures ok { IfOk result (Goes S.now S.marks S.field_types
-            (λ part w. catching self.old.program.now part catches.entry.now (part.stmt body.entry.now w))
-            self.old self.new) }
-        ensures light { IfOk result (λ y. Weighs 2
-            (point S.now S.marks S.field_types self.old) (point S.now S.marks S.field_types self.new) y) }
-        ensures err { OnErr result (FailsIn S.now S.marks S.field_types self.old self.new) }
+        ensures ok { IfOk result (Goes S.state
+            (λ p part w. catching p part catches.entry.now (part.stmt body.entry.now w)) self.old self.new) }
+        ensures light { IfOk result (Adds S.state 2 self.old self.new) }
+        ensures err { OnErr result (FailsIn S.state self.old self.new) }
     {
         self.push(Frame::Plain(PlainFrame::Catching(catches)))?;
         Ok(Focus::Stmt(body.get()))
@@ -71,11 +70,10 @@ impl<'p, S: Store + Drop> Running<'p, S> {
 
     /// An outcome goes to the first `catch` that takes it.
     pub fn catch(&mut self, catches: &'p Items<Catch>, o: Outcome) -> Result<Focus<'p>, OutOfMemory>
-        ensures ok { IfOk result (Goes S.now S.marks S.field_types
-            (λ part w. catching self.old.program.now part catches.entry.now (gives o w))
-            self.old self.new) }
-        ensures light { IfOk result (Leaves S.now S.marks S.field_types 0 self.old self.new) }
-        ensures err { OnErr result (FailsIn S.now S.marks S.field_types self.old self.new) }
+        ensures ok { IfOk result (Goes S.state
+            (λ p part w. catching p part catches.entry.now (gives o w)) self.old self.new) }
+        ensures light { IfOk result (Leaves S.state 0 self.old self.new) }
+        ensures err { OnErr result (FailsIn S.state self.old self.new) }
     {
         match o {
             Outcome::Throw(thrown) => self.catch_object(catches, thrown),
@@ -92,11 +90,9 @@ impl<'p, S: Store + Drop> Running<'p, S> {
 
     // An exception goes to the first `catch` that takes it.
     fn catch_object(&mut self, catches: &'p Items<Catch>, o: u32) -> Result<Focus<'p>, OutOfMemory>
-        ensures ok { IfOk result (Goes S.now S.marks S.field_types
-            (λ part. catch_object self.old.program.now part catches.entry.now o)
-            self.old self.new) }
-        ensures light { IfOk result (Leaves S.now S.marks S.field_types 0 self.old self.new) }
-        ensures err { OnErr result (FailsIn S.now S.marks S.field_types self.old self.new) }
+        ensures ok { IfOk result (Goes S.state (λ p part. catch_object p part catches.entry.now o) self.old self.new) }
+        ensures light { IfOk result (Leaves S.state 0 self.old self.new) }
+        ensures err { OnErr result (FailsIn S.state self.old self.new) }
     {
         match class_at(&self.store, o) {
             Some(class) => match handler(self.program, catches.as_slice(), class) {
@@ -109,11 +105,9 @@ impl<'p, S: Store + Drop> Running<'p, S> {
 
     // The block of a `catch` clause, whose local is the exception.
     fn handle(&mut self, clause: &'p Catch, o: u32) -> Result<Focus<'p>, OutOfMemory>
-        ensures ok { IfOk result (Goes S.now S.marks S.field_types
-            (λ part. handled self.old.program.now part o (Some clause.entry.now))
-            self.old self.new) }
-        ensures light { IfOk result (Leaves S.now S.marks S.field_types 0 self.old self.new) }
-        ensures err { OnErr result (FailsIn S.now S.marks S.field_types self.old self.new) }
+        ensures ok { IfOk result (Goes S.state (λ p part. handled p part o (Some clause.entry.now)) self.old self.new) }
+        ensures light { IfOk result (Leaves S.state 0 self.old self.new) }
+        ensures err { OnErr result (FailsIn S.state self.old self.new) }
     {
         let slot = clause.slot as usize;
         if slot < self.locals.len() {
@@ -126,11 +120,10 @@ impl<'p, S: Store + Drop> Running<'p, S> {
 
     /// A `finally` block is executed after every outcome that doesn't end the run.
     pub fn finish(&mut self, last: &'p Boxed<Stmt>, o: Outcome) -> Result<Focus<'p>, OutOfMemory>
-        ensures ok { IfOk result (Goes S.now S.marks S.field_types
-            (λ part w. finally (part.stmt last.entry.now) (gives o w))
-            self.old self.new) }
-        ensures light { IfOk result (Leaves S.now S.marks S.field_types 0 self.old self.new) }
-        ensures err { OnErr result (FailsIn S.now S.marks S.field_types self.old self.new) }
+        ensures ok { IfOk result (Goes S.state
+            (λ p part w. finally (part.stmt last.entry.now) (gives o w)) self.old self.new) }
+        ensures light { IfOk result (Leaves S.state 0 self.old self.new) }
+        ensures err { OnErr result (FailsIn S.state self.old self.new) }
     {
         match o {
             Outcome::Spent | Outcome::Full(_) | Outcome::Stuck => self.end(o),
@@ -149,11 +142,10 @@ impl<'p, S: Store + Drop> Running<'p, S> {
         last: &'p Boxed<Stmt>,
         earlier: Outcome,
     ) -> Result<Focus<'p>, OutOfMemory>
-        ensures ok { IfOk result (Goes S.now S.marks S.field_types
-            (λ part w. keeping earlier (part.stmt last.entry.now w))
-            self.old self.new) }
-        ensures light { IfOk result (Leaves S.now S.marks S.field_types 0 self.old self.new) }
-        ensures err { OnErr result (FailsIn S.now S.marks S.field_types self.old self.new) }
+        ensures ok { IfOk result (Goes S.state
+            (λ p part w. keeping earlier (part.stmt last.entry.now w)) self.old self.new) }
+        ensures light { IfOk result (Leaves S.state 0 self.old self.new) }
+        ensures err { OnErr result (FailsIn S.state self.old self.new) }
     {
         self.push(Frame::Plain(PlainFrame::Finished(earlier)))?;
         Ok(Focus::Stmt(last.get()))
@@ -161,11 +153,9 @@ impl<'p, S: Store + Drop> Running<'p, S> {
 
     /// After the `finally` block the earlier outcome, unless the block ended abruptly.
     pub fn keep(&mut self, earlier: Outcome, o: Outcome) -> Result<Focus<'p>, OutOfMemory>
-        ensures ok { IfOk result (Goes S.now S.marks S.field_types
-            (λ part w. keeping earlier (gives o w))
-            self.old self.new) }
-        ensures light { IfOk result (Leaves S.now S.marks S.field_types 0 self.old self.new) }
-        ensures err { OnErr result (FailsIn S.now S.marks S.field_types self.old self.new) }
+        ensures ok { IfOk result (Goes S.state (λ p part w. keeping earlier (gives o w)) self.old self.new) }
+        ensures light { IfOk result (Leaves S.state 0 self.old self.new) }
+        ensures err { OnErr result (FailsIn S.state self.old self.new) }
     {
         match o {
             Outcome::Normal => self.end(earlier),

@@ -8,7 +8,9 @@ ghost use Rattle.evaluation.specs.World.{gives};
 ghost use Rattle.evaluation.specs.Values.{literal};
 ghost use Rattle.evaluation.specs.Objects.{computed};
 ghost use Rattle.evaluation.specs.Evaluate.{expr_node, this_value};
-ghost use Rattle.interpreter.specs.Frames.{point, entry_weight, Goes, Leaves, FailsIn, HasFields};
+ghost use Rattle.interpreter.specs.Setting.{point, HasFields};
+ghost use Rattle.interpreter.specs.Weights.{entry_weight};
+ghost use Rattle.interpreter.specs.Moves.{Goes, Leaves, FailsIn};
 
 use crate::calls::MESSAGE_PLACE;
 use crate::frame::{Focus, ValueFrame};
@@ -21,12 +23,11 @@ use value_operators::literal;
 impl<'p, S: Store + Drop> Running<'p, S> {
     /// Goes on with the parts of an expression, from left to right (JLS 15.7).
     pub fn enter_expr(&mut self, e: &'p Expr) -> Result<Focus<'p>, OutOfMemory>
-        requires fields { HasFields (point S.now S.marks S.field_types self.old) }
-        ensures ok { IfOk result (Goes S.now S.marks S.field_types
-            (λ part. expr_node self.old.program.now part (out-Expr e.now))
-            self.old self.new) }
-        ensures light { IfOk result (Leaves S.now S.marks S.field_types (entry_weight (length self.old.program.now.classes)) self.old self.new) }
-        ensures err { OnErr result (FailsIn S.now S.marks S.field_types self.old self.new) }
+        requires fields { HasFields (point S.state self.old) }
+        ensures ok { IfOk result (Goes S.state (λ p part. expr_node p part (out-Expr e.now)) self.old self.new) }
+        ensures light { IfOk result (Leaves S.state
+            (entry_weight (length self.old.program.now.classes)) self.old self.new) }
+        ensures err { OnErr result (FailsIn S.state self.old self.new) }
     {
         match e {
             Expr::Int(n) => self.value(Cell::Int(*n)),
@@ -60,23 +61,20 @@ impl<'p, S: Store + Drop> Running<'p, S> {
 
     /// A value.
     pub fn value(&mut self, v: Cell<u32>) -> Result<Focus<'p>, OutOfMemory>
-        ensures ok { IfOk result (Goes S.now S.marks S.field_types
-            (λ part. gives (outcome.Value v))
-            self.old self.new) }
-        ensures light { IfOk result (Leaves S.now S.marks S.field_types 0 self.old self.new) }
-        ensures err { OnErr result (FailsIn S.now S.marks S.field_types self.old self.new) }
+        ensures ok { IfOk result (Goes S.state (λ p part. gives (outcome.Value v)) self.old self.new) }
+        ensures light { IfOk result (Leaves S.state 0 self.old self.new) }
+        ensures err { OnErr result (FailsIn S.state self.old self.new) }
     {
         Ok(Focus::Answer(Outcome::Value(v)))
     }
 
     // A literal text.
     fn text(&mut self, text: &Text) -> Result<Focus<'p>, OutOfMemory>
-        requires fields { HasFields (point S.now S.marks S.field_types self.old) }
-        ensures ok { IfOk result (Goes S.now S.marks S.field_types
-            (λ part. computed self.old.program.now (literal (value.Text text.now)))
-            self.old self.new) }
-        ensures light { IfOk result (Leaves S.now S.marks S.field_types 0 self.old self.new) }
-        ensures err { OnErr result (FailsIn S.now S.marks S.field_types self.old self.new) }
+        requires fields { HasFields (point S.state self.old) }
+        ensures ok { IfOk result (Goes S.state
+            (λ p part. computed p (literal (value.Text text.now))) self.old self.new) }
+        ensures light { IfOk result (Leaves S.state 0 self.old self.new) }
+        ensures err { OnErr result (FailsIn S.state self.old self.new) }
     {
         let came = literal(text)?;
         self.come_to(came)
@@ -84,11 +82,9 @@ impl<'p, S: Store + Drop> Running<'p, S> {
 
     // The object that `this` is (JLS 15.8.3).
     fn this_value(&mut self) -> Result<Focus<'p>, OutOfMemory>
-        ensures ok { IfOk result (Goes S.now S.marks S.field_types
-            (λ part w. this_value w.this w)
-            self.old self.new) }
-        ensures light { IfOk result (Leaves S.now S.marks S.field_types 0 self.old self.new) }
-        ensures err { OnErr result (FailsIn S.now S.marks S.field_types self.old self.new) }
+        ensures ok { IfOk result (Goes S.state (λ p part w. this_value w.this w) self.old self.new) }
+        ensures light { IfOk result (Leaves S.state 0 self.old self.new) }
+        ensures err { OnErr result (FailsIn S.state self.old self.new) }
     {
         match self.this {
             Some(o) => Ok(Focus::Answer(Outcome::Value(Cell::Ref(o)))),

@@ -63,7 +63,7 @@ pub enum ValueFrame<'p> {
     /// It is the other operand of an update: the old value and the place are here.
     Update(UpOp, Cell<u32>, Place),
     Discard,
-    /// It is printed, with a line feed behind it where the flag is true.
+    /// It is printed, with a line feed after it where the flag is true.
     Print(bool),
     /// It chooses between two statements.
     If(&'p Boxed<Stmt>, &'p Option<Boxed<Stmt>>),
@@ -104,7 +104,7 @@ pub enum Callee {
     Super(u32, Option<u32>),
     /// The constructor with this number, for the new object at this position.
     New(u32, u32),
-    /// The constructor with this number, for the object at this position, as a superclass's. So many superclasses may
+    /// The constructor with this number, for the object at this position, as a superclass's. That many superclasses may
     /// come, itself among them.
     Parent(u32, u32, usize),
 }
@@ -192,7 +192,7 @@ pub enum Focus<'p> {
     Stmt(&'p Stmt),
     /// Before a further turn of a loop.
     Loop(LoopParts<'p>),
-    /// Before the run of the constructor with this number, for the object at this position, with these arguments. So many
+    /// Before the run of the constructor with this number, for the object at this position, with these arguments. That many
     /// superclasses may come, itself among them.
     Construct(u32, u32, Items<Cell<u32>>, usize),
     /// Before these bytes are printed.

@@ -2,7 +2,7 @@
 
 ghost use Rattle.std.specs.Prelude.{IfOk, OnErr, slice_get};
 ghost use Rattle.evaluation.specs.Objects.{read_local, write_local};
-ghost use Rattle.interpreter.specs.Frames.{point, Goes, Leaves, FailsIn};
+ghost use Rattle.interpreter.specs.Moves.{Goes, Leaves, FailsIn};
 
 use crate::frame::Focus;
 use crate::running::Running;
@@ -13,9 +13,9 @@ use heap_arena::{Cell, Store};
 impl<'p, S: Store + Drop> Running<'p, S> {
     /// The value of a local.
     pub fn read_local(&mut self, at: u32) -> Result<Focus<'p>, OutOfMemory>
-        ensures ok { IfOk result (Goes S.now S.marks S.field_types (λ part. read_local at) self.old self.new) }
-        ensures light { IfOk result (Leaves S.now S.marks S.field_types 0 self.old self.new) }
-        ensures err { OnErr result (FailsIn S.now S.marks S.field_types self.old self.new) }
+        ensures ok { IfOk result (Goes S.state (λ p part. read_local at) self.old self.new) }
+        ensures light { IfOk result (Leaves S.state 0 self.old self.new) }
+        ensures err { OnErr result (FailsIn S.state self.old self.new) }
     {
         match self.locals.get(at as usize) {
             Some(v) => Ok(Focus::Answer(Outcome::Value(v.copy()?))),
@@ -25,9 +25,9 @@ impl<'p, S: Store + Drop> Running<'p, S> {
 
     /// Gives a local a value.
     pub fn write_local(&mut self, at: u32, v: Cell<u32>) -> Result<Focus<'p>, OutOfMemory>
-        ensures ok { IfOk result (Goes S.now S.marks S.field_types (λ part. write_local at v) self.old self.new) }
-        ensures light { IfOk result (Leaves S.now S.marks S.field_types 0 self.old self.new) }
-        ensures err { OnErr result (FailsIn S.now S.marks S.field_types self.old self.new) }
+        ensures ok { IfOk result (Goes S.state (λ p part. write_local at v) self.old self.new) }
+        ensures light { IfOk result (Leaves S.state 0 self.old self.new) }
+        ensures err { OnErr result (FailsIn S.state self.old self.new) }
     {
         let at = at as usize;
         if at < self.locals.len() {

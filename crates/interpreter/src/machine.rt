@@ -2,7 +2,8 @@
 
 ghost use Rattle.std.specs.Prelude.{◌≡◌, MatchOption, Some, map};
 ghost use Rattle.core_tree.specs.WellTyped.{IsWellTyped};
-ghost use Rattle.interpreter.specs.Machine.{text_of, EndsRun, IsFresh};
+ghost use Rattle.heap_arena.specs.State.{new_state};
+ghost use Rattle.interpreter.specs.Machine.{text_of, EndsRun};
 
 use crate::run::run_main;
 use crate::stop::RunStop;
@@ -10,15 +11,27 @@ use core_tree::Program;
 use heap_arena::Store;
 use pb_io::Sink;
 use std::alloc::Global;
+use std::marker::Model;
 use type_safety::never_stuck;
 
-/// The machine over a store: it runs a program once, with explicit frames and no recursion.
+/// The machine over a store: it runs a program once, with explicit frames and no recursion. Contracts see its store, the
+/// steps that the run took, and whether a call of the sink was refused.
 #[derive(Drop)]
 pub struct Machine<S> {
     alloc: Global,
     store: Option<S>,
     steps_taken: u64,
     sink_refused: bool,
+}
+
+impl<S> Model for Machine<S> {
+    ghost use Rattle.interpreter.specs.View.{MachineView, view_code};
+
+    ghost Value = { MachineView S };
+
+    ghost coded = { view_code S.code };
+
+    ghost view = { λ m. record { store = m.store; steps_taken = m.steps_taken; sink_refused = m.sink_refused } };
 }
 
 impl<S: Store + Drop> Machine<S> {
@@ -35,13 +48,14 @@ impl<S: Store + Drop> Machine<S> {
         }
     }
 
-    /// Runs a well-typed program with these arguments and a budget of steps. What it prints goes into the sink, a put for each
-    /// print, and it asks for no flush. The store has no object, no mark, and the field types of the program. An argument of
-    /// more than 1,048,576 code units is `Full(Text)` before the first step.
+    /// Runs a well-typed program with these arguments and a budget of steps. What it prints goes into the sink, a put for
+    /// each print, and nothing is flushed. The store has no object, no mark, and the field types of the program. An
+    /// argument of more than 1,048,576 code units is `Full(Text)` before the first step.
     ///
     /// Every stop but the last two is that of the reference evaluation with this budget, and its output is whole; after
     /// `Done` and `Uncaught` the store holds the heap that it left, and no mark stands. `OutOfMemory`, which may come at any
-    /// point, and `WriteFault` leave a prefix of what a run with the steps taken prints.
+    /// point, and `WriteFault` leave a prefix of what a run with the steps taken prints. Where the sink refused a call, it
+    /// was the last one, and the stop tells its error: `WriteFault` always, and `OutOfMemory` where `sink_refused` says so.
     pub fn run<O: Sink>(
         &mut self,
         program: &Program,
@@ -50,10 +64,10 @@ impl<S: Store + Drop> Machine<S> {
         sink: &mut O,
     ) -> RunStop
         requires well_typed { IsWellTyped program.now }
-        requires fresh { MatchOption self.old.store ⊥ (λ store.
-            IsFresh program.now (S.now store) (S.marks store) (S.field_types store)) }
+        requires fresh { MatchOption self.old.store ⊥ (λ store. S.state store ≡ new_state program.now) }
         ensures { MatchOption self.new.store ⊥ (λ store. EndsRun program.now (map text_of args.now) steps
-            (O.state sink.old) (O.state sink.new) (S.now store) (S.marks store) self.new.steps_taken (Some result)) }
+            (O.state sink.old) (O.state sink.new)
+            (S.state store) self.new.steps_taken self.new.sink_refused (Some result)) }
     {
         match self.attempt(program, args, steps, sink) {
             Some(stop) => stop,
@@ -64,8 +78,8 @@ impl<S: Store + Drop> Machine<S> {
         }
     }
 
-    /// The same, over the same kind of store, for a program that may not be well typed: `None` where a part of it was reached
-    /// that has no meaning, and the reference evaluation is stuck with this budget.
+    /// The same, over the same kind of store, for a program that may not be well typed: `None` where a part of it was
+    /// reached that has no meaning, and the reference evaluation is stuck with this budget.
     pub fn attempt<O: Sink>(
         &mut self,
         program: &Program,
@@ -73,10 +87,10 @@ impl<S: Store + Drop> Machine<S> {
         steps: u64,
         sink: &mut O,
     ) -> Option<RunStop>
-        requires fresh { MatchOption self.old.store ⊥ (λ store.
-            IsFresh program.now (S.now store) (S.marks store) (S.field_types store)) }
+        requires fresh { MatchOption self.old.store ⊥ (λ store. S.state store ≡ new_state program.now) }
         ensures { MatchOption self.new.store ⊥ (λ store. EndsRun program.now (map text_of args.now) steps
-            (O.state sink.old) (O.state sink.new) (S.now store) (S.marks store) self.new.steps_taken result) }
+            (O.state sink.old) (O.state sink.new)
+            (S.state store) self.new.steps_taken self.new.sink_refused result) }
     {
         let store = self.store.take()?;
         let ended = run_main(self.alloc, program, store, args, steps, sink);
@@ -93,7 +107,7 @@ impl<S: Store + Drop> Machine<S> {
         self.steps_taken
     }
 
-    /// Whether a call of the sink failed in the run, so that the sink should not be used any more.
+    /// Whether the sink refused a call in the run, so that it isn't to be used any more.
     pub fn sink_refused(&self) -> bool
         ensures { result ≡ self.now.sink_refused }
     {

@@ -4,7 +4,12 @@ ghost use Rattle.std.specs.Prelude.{◌≡◌, ◌+◌, ◌*◌, IfOk, OnErr, So
 ghost use Rattle.evaluation.specs.Calls.{build, build_parent, construct, initialise};
 ghost use Rattle.evaluation.specs.Objects.{make_instance};
 ghost use Rattle.evaluation.specs.Evaluate.{new_object, new_built_in};
-ghost use Rattle.interpreter.specs.Frames.{point, built, entry_weight, initialised_then, messaged, new_from, next_start, run_maker, start_of, started, Weighs, Goes, Leaves, FailsIn, HasFields};
+ghost use Rattle.interpreter.specs.Frames.{built};
+ghost use Rattle.interpreter.specs.Setting.{point, HasFields};
+ghost use Rattle.interpreter.specs.Weights.{entry_weight};
+ghost use Rattle.interpreter.specs.Moves.{Goes, Leaves, FailsIn, Adds};
+ghost use Rattle.interpreter.specs.Functions.{messaged, new_from, run_maker};
+ghost use Rattle.interpreter.specs.Starts.{initialised_then, next_start, start_of, started};
 
 use crate::calls::{MESSAGE_PLACE, MOST_LIVE};
 use crate::frame::{CallEnd, Callee, Focus, Frame, Made, NormalFrame, ValueFrame};
@@ -18,12 +23,11 @@ use sqlite_items::{Boxed, Items};
 impl<'p, S: Store + Drop> Running<'p, S> {
     /// A new object of a class of the file: it is made before its arguments are evaluated.
     pub fn new_object(&mut self, k: u32, given: &'p Items<Expr>) -> Result<Focus<'p>, OutOfMemory>
-        requires fields { HasFields (point S.now S.marks S.field_types self.old) }
-        ensures ok { IfOk result (Goes S.now S.marks S.field_types
-            (λ part. new_object self.old.program.now part k given.entry.now)
-            self.old self.new) }
-        ensures light { IfOk result (Leaves S.now S.marks S.field_types (entry_weight (length self.old.program.now.classes)) self.old self.new) }
-        ensures err { OnErr result (FailsIn S.now S.marks S.field_types self.old self.new) }
+        requires fields { HasFields (point S.state self.old) }
+        ensures ok { IfOk result (Goes S.state (λ p part. new_object p part k given.entry.now) self.old self.new) }
+        ensures light { IfOk result (Leaves S.state
+            (entry_weight (length self.old.program.now.classes)) self.old self.new) }
+        ensures err { OnErr result (FailsIn S.state self.old self.new) }
     {
         match self.program.makers.get(k as usize) {
             Some(maker) => self.new_instance(k, maker.owner, given),
@@ -38,12 +42,12 @@ impl<'p, S: Store + Drop> Running<'p, S> {
         class: u32,
         given: &'p Items<Expr>,
     ) -> Result<Focus<'p>, OutOfMemory>
-        requires fields { HasFields (point S.now S.marks S.field_types self.old) }
-        ensures ok { IfOk result (Goes S.now S.marks S.field_types
-            (λ part. make_instance self.old.program.now class (new_from self.old.program.now part k given.entry.now))
-            self.old self.new) }
-        ensures light { IfOk result (Leaves S.now S.marks S.field_types (entry_weight (length self.old.program.now.classes)) self.old self.new) }
-        ensures err { OnErr result (FailsIn S.now S.marks S.field_types self.old self.new) }
+        requires fields { HasFields (point S.state self.old) }
+        ensures ok { IfOk result (Goes S.state
+            (λ p part. make_instance p class (new_from p part k given.entry.now)) self.old self.new) }
+        ensures light { IfOk result (Leaves S.state
+            (entry_weight (length self.old.program.now.classes)) self.old self.new) }
+        ensures err { OnErr result (FailsIn S.state self.old self.new) }
     {
         match self.make_instance(class)? {
             Made::Object(o) => {
@@ -60,12 +64,11 @@ impl<'p, S: Store + Drop> Running<'p, S> {
         class: u32,
         message: &'p Option<Boxed<Expr>>,
     ) -> Result<Focus<'p>, OutOfMemory>
-        requires fields { HasFields (point S.now S.marks S.field_types self.old) }
-        ensures ok { IfOk result (Goes S.now S.marks S.field_types
-            (λ part. new_built_in self.old.program.now part class message.entry.now)
-            self.old self.new) }
-        ensures light { IfOk result (Leaves S.now S.marks S.field_types 0 self.old self.new) }
-        ensures err { OnErr result (FailsIn S.now S.marks S.field_types self.old self.new) }
+        requires fields { HasFields (point S.state self.old) }
+        ensures ok { IfOk result (Goes S.state
+            (λ p part. new_built_in p part class message.entry.now) self.old self.new) }
+        ensures light { IfOk result (Leaves S.state 0 self.old self.new) }
+        ensures err { OnErr result (FailsIn S.state self.old self.new) }
     {
         match self.make_instance(class)? {
             Made::Object(o) => self.with_message(o, message),
@@ -79,11 +82,9 @@ impl<'p, S: Store + Drop> Running<'p, S> {
         o: u32,
         message: &'p Option<Boxed<Expr>>,
     ) -> Result<Focus<'p>, OutOfMemory>
-        ensures ok { IfOk result (Goes S.now S.marks S.field_types
-            (λ part. messaged part o message.entry.now)
-            self.old self.new) }
-        ensures light { IfOk result (Leaves S.now S.marks S.field_types 0 self.old self.new) }
-        ensures err { OnErr result (FailsIn S.now S.marks S.field_types self.old self.new) }
+        ensures ok { IfOk result (Goes S.state (λ p part. messaged part o message.entry.now) self.old self.new) }
+        ensures light { IfOk result (Leaves S.state 0 self.old self.new) }
+        ensures err { OnErr result (FailsIn S.state self.old self.new) }
     {
         match message {
             Some(e) => self.with_text(o, e),
@@ -93,11 +94,9 @@ impl<'p, S: Store + Drop> Running<'p, S> {
 
     // The same with a message.
     fn with_text(&mut self, o: u32, e: &'p Boxed<Expr>) -> Result<Focus<'p>, OutOfMemory>
-        ensures ok { IfOk result (Goes S.now S.marks S.field_types
-            (λ part. messaged part o (Some e.entry.now))
-            self.old self.new) }
-        ensures light { IfOk result (Leaves S.now S.marks S.field_types 0 self.old self.new) }
-        ensures err { OnErr result (FailsIn S.now S.marks S.field_types self.old self.new) }
+        ensures ok { IfOk result (Goes S.state (λ p part. messaged part o (Some e.entry.now)) self.old self.new) }
+        ensures light { IfOk result (Leaves S.state 0 self.old self.new) }
+        ensures err { OnErr result (FailsIn S.state self.old self.new) }
     {
         self.push(Frame::Normal(NormalFrame::New(o)))?;
         self.value_of(e, ValueFrame::WriteCell(o, MESSAGE_PLACE as usize))
@@ -111,12 +110,10 @@ impl<'p, S: Store + Drop> Running<'p, S> {
         got: Items<Cell<u32>>,
         levels: usize,
     ) -> Result<Focus<'p>, OutOfMemory>
-        requires fields { HasFields (point S.now S.marks S.field_types self.old) }
-        ensures ok { IfOk result (Goes S.now S.marks S.field_types
-            (λ part. construct self.old.program.now part levels k o got)
-            self.old self.new) }
-        ensures light { IfOk result (Leaves S.now S.marks S.field_types (6 * (levels + 1)) self.old self.new) }
-        ensures err { OnErr result (FailsIn S.now S.marks S.field_types self.old self.new) }
+        requires fields { HasFields (point S.state self.old) }
+        ensures ok { IfOk result (Goes S.state (λ p part. construct p part levels k o got) self.old self.new) }
+        ensures light { IfOk result (Leaves S.state (6 * (levels + 1)) self.old self.new) }
+        ensures err { OnErr result (FailsIn S.state self.old self.new) }
     {
         if levels == 0 {
             return self.end(Outcome::Stuck);
@@ -127,7 +124,7 @@ impl<'p, S: Store + Drop> Running<'p, S> {
         }
     }
 
-    // The body of a constructor for which so many superclasses may come.
+    // The body of a constructor for which that many superclasses may come.
     fn run_maker(
         &mut self,
         maker: &'p Maker,
@@ -135,12 +132,11 @@ impl<'p, S: Store + Drop> Running<'p, S> {
         got: Items<Cell<u32>>,
         levels: usize,
     ) -> Result<Focus<'p>, OutOfMemory>
-        requires fields { HasFields (point S.now S.marks S.field_types self.old) }
-        ensures ok { IfOk result (Goes S.now S.marks S.field_types
-            (λ part. run_maker self.old.program.now part levels maker.entry.now o got)
-            self.old self.new) }
-        ensures light { IfOk result (Leaves S.now S.marks S.field_types (6 * (levels + 1) + 6) self.old self.new) }
-        ensures err { OnErr result (FailsIn S.now S.marks S.field_types self.old self.new) }
+        requires fields { HasFields (point S.state self.old) }
+        ensures ok { IfOk result (Goes S.state
+            (λ p part. run_maker p part levels maker.entry.now o got) self.old self.new) }
+        ensures light { IfOk result (Leaves S.state (6 * (levels + 1) + 6) self.old self.new) }
+        ensures err { OnErr result (FailsIn S.state self.old self.new) }
     {
         if self.live < MOST_LIVE {
             self.begin(CallEnd::Constructor, Some(o), got, &maker.locals)?;
@@ -150,14 +146,13 @@ impl<'p, S: Store + Drop> Running<'p, S> {
         }
     }
 
-    // The superclass of a constructor, and what comes behind it.
+    // The superclass of a constructor, and what comes after it.
     fn build(&mut self, o: u32, maker: &'p Maker, levels: usize) -> Result<Focus<'p>, OutOfMemory>
-        requires fields { HasFields (point S.now S.marks S.field_types self.old) }
-        ensures ok { IfOk result (Goes S.now S.marks S.field_types
-            (λ part. build self.old.program.now part (construct self.old.program.now part levels) o maker.entry.now)
-            self.old self.new) }
-        ensures light { IfOk result (Leaves S.now S.marks S.field_types (6 * (levels + 1) + 4) self.old self.new) }
-        ensures err { OnErr result (FailsIn S.now S.marks S.field_types self.old self.new) }
+        requires fields { HasFields (point S.state self.old) }
+        ensures ok { IfOk result (Goes S.state
+            (λ p part. build p part (construct p part levels) o maker.entry.now) self.old self.new) }
+        ensures light { IfOk result (Leaves S.state (6 * (levels + 1) + 4) self.old self.new) }
+        ensures err { OnErr result (FailsIn S.state self.old self.new) }
     {
         self.push(Frame::Normal(NormalFrame::Parent(o, maker)))?;
         self.build_parent(o, &maker.parent, levels)
@@ -170,12 +165,11 @@ impl<'p, S: Store + Drop> Running<'p, S> {
         parent: &'p Parent,
         levels: usize,
     ) -> Result<Focus<'p>, OutOfMemory>
-        requires fields { HasFields (point S.now S.marks S.field_types self.old) }
-        ensures ok { IfOk result (Goes S.now S.marks S.field_types
-            (λ part. build_parent self.old.program.now part (construct self.old.program.now part levels) o parent.entry.now)
-            self.old self.new) }
-        ensures light { IfOk result (Leaves S.now S.marks S.field_types (6 * (levels + 1) + 2) self.old self.new) }
-        ensures err { OnErr result (FailsIn S.now S.marks S.field_types self.old self.new) }
+        requires fields { HasFields (point S.state self.old) }
+        ensures ok { IfOk result (Goes S.state
+            (λ p part. build_parent p part (construct p part levels) o parent.entry.now) self.old self.new) }
+        ensures light { IfOk result (Leaves S.state (6 * (levels + 1) + 2) self.old self.new) }
+        ensures err { OnErr result (FailsIn S.state self.old self.new) }
     {
         match parent {
             Parent::Plain => self.end(Outcome::Normal),
@@ -187,13 +181,11 @@ impl<'p, S: Store + Drop> Running<'p, S> {
         }
     }
 
-    /// What is left of a constructor behind its superclass: the field initialisers and the body.
+    /// What is left of a constructor after its superclass: the field initialisers and the body.
     pub fn built(&mut self, o: u32, maker: &'p Maker) -> Result<Focus<'p>, OutOfMemory>
-        ensures ok { IfOk result (Goes S.now S.marks S.field_types
-            (λ part. built self.old.program.now part o maker.entry.now)
-            self.old self.new) }
-        ensures light { IfOk result (Leaves S.now S.marks S.field_types 0 self.old self.new) }
-        ensures err { OnErr result (FailsIn S.now S.marks S.field_types self.old self.new) }
+        ensures ok { IfOk result (Goes S.state (λ p part. built p part o maker.entry.now) self.old self.new) }
+        ensures light { IfOk result (Leaves S.state 0 self.old self.new) }
+        ensures err { OnErr result (FailsIn S.state self.old self.new) }
     {
         match self.program.classes.get(maker.owner as usize) {
             Some(class) => self.initialise_then(o, maker.owner, &class.fields, &maker.body),
@@ -209,11 +201,10 @@ impl<'p, S: Store + Drop> Running<'p, S> {
         fields: &'p Items<Field>,
         body: &'p Items<Stmt>,
     ) -> Result<Focus<'p>, OutOfMemory>
-        ensures ok { IfOk result (Goes S.now S.marks S.field_types
-            (λ part. initialised_then self.old.program.now part o class fields.entry.now body.entry.now)
-            self.old self.new) }
-        ensures light { IfOk result (Leaves S.now S.marks S.field_types 0 self.old self.new) }
-        ensures err { OnErr result (FailsIn S.now S.marks S.field_types self.old self.new) }
+        ensures ok { IfOk result (Goes S.state
+            (λ p part. initialised_then p part o class fields.entry.now body.entry.now) self.old self.new) }
+        ensures light { IfOk result (Leaves S.state 0 self.old self.new) }
+        ensures err { OnErr result (FailsIn S.state self.old self.new) }
     {
         match next_start(class, 0, fields.as_slice()) {
             Some(start) => {
@@ -232,11 +223,10 @@ impl<'p, S: Store + Drop> Running<'p, S> {
         from: usize,
         fields: &'p Items<Field>,
     ) -> Result<Focus<'p>, OutOfMemory>
-        ensures ok { IfOk result (Goes S.now S.marks S.field_types
-            (λ part. initialise self.old.program.now part o class from (drop from fields.entry.now))
-            self.old self.new) }
-        ensures light { IfOk result (Leaves S.now S.marks S.field_types 0 self.old self.new) }
-        ensures err { OnErr result (FailsIn S.now S.marks S.field_types self.old self.new) }
+        ensures ok { IfOk result (Goes S.state
+            (λ p part. initialise p part o class from (drop from fields.entry.now)) self.old self.new) }
+        ensures light { IfOk result (Leaves S.state 0 self.old self.new) }
+        ensures err { OnErr result (FailsIn S.state self.old self.new) }
     {
         match next_start(class, from, fields.as_slice()) {
             Some(start) => self.start_field(o, class, start, fields),
@@ -244,7 +234,7 @@ impl<'p, S: Store + Drop> Running<'p, S> {
         }
     }
 
-    // An initialiser, and those behind it.
+    // An initialiser, and those after it.
     fn start_field(
         &mut self,
         o: u32,
@@ -252,12 +242,11 @@ impl<'p, S: Store + Drop> Running<'p, S> {
         start: Start<'p>,
         fields: &'p Items<Field>,
     ) -> Result<Focus<'p>, OutOfMemory>
-        ensures ok { IfOk result (Goes S.now S.marks S.field_types
-            (λ part. started self.old.program.now part o class start.entry.at start.entry.value.now fields.entry.now)
+        ensures ok { IfOk result (Goes S.state
+            (λ p part. started p part o class start.entry.at start.entry.value.now fields.entry.now)
             self.old self.new) }
-        ensures light { IfOk result (λ y. Weighs 4
-            (point S.now S.marks S.field_types self.old) (point S.now S.marks S.field_types self.new) y) }
-        ensures err { OnErr result (FailsIn S.now S.marks S.field_types self.old self.new) }
+        ensures light { IfOk result (Adds S.state 4 self.old self.new) }
+        ensures err { OnErr result (FailsIn S.state self.old self.new) }
     {
         self.push(Frame::Normal(NormalFrame::Fields(o, class, start.next, fields)))?;
         self.value_of(start.value, ValueFrame::WriteCell(o, start.at))

@@ -7,7 +7,8 @@ ghost use Rattle.heap_arena.specs.Heap.{FitsKind};
 ghost use Rattle.evaluation.specs.declared.outcome.Outcome.TheVariants as outcome;
 ghost use Rattle.evaluation.specs.World.{gives};
 ghost use Rattle.evaluation.specs.Objects.{computed, make, make_instance, new_array, trap};
-ghost use Rattle.interpreter.specs.Frames.{point, Goes, Leaves, FailsIn, Makes, HasFields};
+ghost use Rattle.interpreter.specs.Setting.{point, HasFields};
+ghost use Rattle.interpreter.specs.Moves.{Goes, Leaves, FailsIn, Makes};
 
 use crate::frame::{Focus, Made};
 use crate::running::Running;
@@ -18,11 +19,11 @@ use heap_arena::{Cell, Kind, MakeError, Store};
 impl<'p, S: Store + Drop> Running<'p, S> {
     /// Makes an object of a kind, where its cells have room.
     pub fn make(&mut self, kind: Kind, cells: u32) -> Result<Made, OutOfMemory>
-        requires fields { HasFields (point S.now S.marks S.field_types self.old) }
-        requires kind { FitsKind (S.field_types self.old.store) kind cells }
+        requires fields { HasFields (point S.state self.old) }
+        requires kind { FitsKind (S.state self.old.store).field_types kind cells }
         ensures ok { IfOk result (Makes (make self.old.program.now kind cells)
-            (point S.now S.marks S.field_types self.old) (point S.now S.marks S.field_types self.new)) }
-        ensures err { OnErr result (FailsIn S.now S.marks S.field_types self.old self.new) }
+            (point S.state self.old) (point S.state self.new)) }
+        ensures err { OnErr result (FailsIn S.state self.old self.new) }
     {
         match object_cells::make(&mut self.store, kind, cells) {
             Ok(position) => Ok(Made::Object(position)),
@@ -33,10 +34,10 @@ impl<'p, S: Store + Drop> Running<'p, S> {
 
     /// Makes an instance of a class, each field with its default.
     pub fn make_instance(&mut self, class: u32) -> Result<Made, OutOfMemory>
-        requires fields { HasFields (point S.now S.marks S.field_types self.old) }
+        requires fields { HasFields (point S.state self.old) }
         ensures ok { IfOk result (Makes (make_instance self.old.program.now class)
-            (point S.now S.marks S.field_types self.old) (point S.now S.marks S.field_types self.new)) }
-        ensures err { OnErr result (FailsIn S.now S.marks S.field_types self.old self.new) }
+            (point S.state self.old) (point S.state self.new)) }
+        ensures err { OnErr result (FailsIn S.state self.old self.new) }
     {
         match self.program.classes.get(class as usize) {
             Some(row) => match u32::try_from(row.fields.len()) {
@@ -49,12 +50,10 @@ impl<'p, S: Store + Drop> Running<'p, S> {
 
     /// Makes an exception of a built-in class and throws it.
     pub fn trap(&mut self, class: BuiltIn) -> Result<Focus<'p>, OutOfMemory>
-        requires fields { HasFields (point S.now S.marks S.field_types self.old) }
-        ensures ok { IfOk result (Goes S.now S.marks S.field_types
-            (λ part. trap self.old.program.now class)
-            self.old self.new) }
-        ensures light { IfOk result (Leaves S.now S.marks S.field_types 0 self.old self.new) }
-        ensures err { OnErr result (FailsIn S.now S.marks S.field_types self.old self.new) }
+        requires fields { HasFields (point S.state self.old) }
+        ensures ok { IfOk result (Goes S.state (λ p part. trap p class) self.old self.new) }
+        ensures light { IfOk result (Leaves S.state 0 self.old self.new) }
+        ensures err { OnErr result (FailsIn S.state self.old self.new) }
     {
         match self.make_instance(class.number())? {
             Made::Object(o) => Ok(Focus::Answer(Outcome::Throw(o))),
@@ -64,12 +63,10 @@ impl<'p, S: Store + Drop> Running<'p, S> {
 
     /// Goes on as a computation came out.
     pub fn come_to(&mut self, came: Computed) -> Result<Focus<'p>, OutOfMemory>
-        requires fields { HasFields (point S.now S.marks S.field_types self.old) }
-        ensures ok { IfOk result (Goes S.now S.marks S.field_types
-            (λ part. computed self.old.program.now came)
-            self.old self.new) }
-        ensures light { IfOk result (Leaves S.now S.marks S.field_types 0 self.old self.new) }
-        ensures err { OnErr result (FailsIn S.now S.marks S.field_types self.old self.new) }
+        requires fields { HasFields (point S.state self.old) }
+        ensures ok { IfOk result (Goes S.state (λ p part. computed p came) self.old self.new) }
+        ensures light { IfOk result (Leaves S.state 0 self.old self.new) }
+        ensures err { OnErr result (FailsIn S.state self.old self.new) }
     {
         match came {
             Computed::Gives(v) => self.end(Outcome::Value(v)),
@@ -81,12 +78,10 @@ impl<'p, S: Store + Drop> Running<'p, S> {
 
     /// Makes an array (JLS 15.10.1).
     pub fn new_array(&mut self, elements: &Ty, count: Cell<u32>) -> Result<Focus<'p>, OutOfMemory>
-        requires fields { HasFields (point S.now S.marks S.field_types self.old) }
-        ensures ok { IfOk result (Goes S.now S.marks S.field_types
-            (λ part. new_array self.old.program.now elements.now count)
-            self.old self.new) }
-        ensures light { IfOk result (Leaves S.now S.marks S.field_types 0 self.old self.new) }
-        ensures err { OnErr result (FailsIn S.now S.marks S.field_types self.old self.new) }
+        requires fields { HasFields (point S.state self.old) }
+        ensures ok { IfOk result (Goes S.state (λ p part. new_array p elements.now count) self.old self.new) }
+        ensures light { IfOk result (Leaves S.state 0 self.old self.new) }
+        ensures err { OnErr result (FailsIn S.state self.old self.new) }
     {
         match count {
             Cell::Int(count) => match u32::try_from(count) {
@@ -97,14 +92,14 @@ impl<'p, S: Store + Drop> Running<'p, S> {
         }
     }
 
-    // Makes an array with so many elements.
+    // Makes an array with that many elements.
     fn make_array(&mut self, elements: &Ty, count: u32) -> Result<Focus<'p>, OutOfMemory>
-        requires fields { HasFields (point S.now S.marks S.field_types self.old) }
-        ensures ok { IfOk result (Goes S.now S.marks S.field_types
-            (λ part. make self.old.program.now (kind.Array elements.now) count (λ o. gives (outcome.Value (value.Ref o))))
+        requires fields { HasFields (point S.state self.old) }
+        ensures ok { IfOk result (Goes S.state
+            (λ p part. make p (kind.Array elements.now) count (λ o. gives (outcome.Value (value.Ref o))))
             self.old self.new) }
-        ensures light { IfOk result (Leaves S.now S.marks S.field_types 0 self.old self.new) }
-        ensures err { OnErr result (FailsIn S.now S.marks S.field_types self.old self.new) }
+        ensures light { IfOk result (Leaves S.state 0 self.old self.new) }
+        ensures err { OnErr result (FailsIn S.state self.old self.new) }
     {
         let kind = Kind::Array(elements.copy(self.alloc)?);
         match self.make(kind, count)? {

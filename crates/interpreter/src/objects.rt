@@ -3,7 +3,8 @@
 ghost use Rattle.std.specs.Prelude.{◌≡◌, IfOk, OnErr, option_map, pos};
 ghost use Rattle.evaluation.specs.Objects.{array_length, cast, elements_count, is_instance};
 ghost use Rattle.evaluation.specs.Execute.{throw};
-ghost use Rattle.interpreter.specs.Frames.{point, Goes, Leaves, FailsIn, HasFields};
+ghost use Rattle.interpreter.specs.Setting.{point, HasFields};
+ghost use Rattle.interpreter.specs.Moves.{Goes, Leaves, FailsIn};
 
 use crate::frame::Focus;
 use crate::running::Running;
@@ -15,12 +16,10 @@ use object_cells::{elements_count, object_fits};
 impl<'p, S: Store + Drop> Running<'p, S> {
     /// The number of elements of an array (JLS 10.7).
     pub fn array_length(&mut self, array: Cell<u32>) -> Result<Focus<'p>, OutOfMemory>
-        requires fields { HasFields (point S.now S.marks S.field_types self.old) }
-        ensures ok { IfOk result (Goes S.now S.marks S.field_types
-            (λ part. array_length self.old.program.now array)
-            self.old self.new) }
-        ensures light { IfOk result (Leaves S.now S.marks S.field_types 0 self.old self.new) }
-        ensures err { OnErr result (FailsIn S.now S.marks S.field_types self.old self.new) }
+        requires fields { HasFields (point S.state self.old) }
+        ensures ok { IfOk result (Goes S.state (λ p part. array_length p array) self.old self.new) }
+        ensures light { IfOk result (Leaves S.state 0 self.old self.new) }
+        ensures err { OnErr result (FailsIn S.state self.old self.new) }
     {
         match array {
             Cell::Null => self.trap(BuiltIn::NullPointerException),
@@ -34,19 +33,17 @@ impl<'p, S: Store + Drop> Running<'p, S> {
 
     // The number of elements of the array at a position.
     fn count(&self, o: u32) -> Option<i32>
-        ensures { result ≡ option_map pos (elements_count (S.now self.now.store) o) }
+        ensures { result ≡ option_map pos (elements_count (S.state self.now.store).now o) }
     {
         Some(elements_count(&self.store, o)? as i32)
     }
 
     /// A cast (JLS 15.16).
     pub fn cast(&mut self, to: &Ty, v: Cell<u32>) -> Result<Focus<'p>, OutOfMemory>
-        requires fields { HasFields (point S.now S.marks S.field_types self.old) }
-        ensures ok { IfOk result (Goes S.now S.marks S.field_types
-            (λ part. cast self.old.program.now to.now v)
-            self.old self.new) }
-        ensures light { IfOk result (Leaves S.now S.marks S.field_types 0 self.old self.new) }
-        ensures err { OnErr result (FailsIn S.now S.marks S.field_types self.old self.new) }
+        requires fields { HasFields (point S.state self.old) }
+        ensures ok { IfOk result (Goes S.state (λ p part. cast p to.now v) self.old self.new) }
+        ensures light { IfOk result (Leaves S.state 0 self.old self.new) }
+        ensures err { OnErr result (FailsIn S.state self.old self.new) }
     {
         match v {
             Cell::Null => self.end(Outcome::Value(Cell::Null)),
@@ -63,11 +60,9 @@ impl<'p, S: Store + Drop> Running<'p, S> {
 
     /// `instanceof` (JLS 15.20.2).
     pub fn is_instance(&mut self, of: &Ty, v: Cell<u32>) -> Result<Focus<'p>, OutOfMemory>
-        ensures ok { IfOk result (Goes S.now S.marks S.field_types
-            (λ part. is_instance self.old.program.now of.now v)
-            self.old self.new) }
-        ensures light { IfOk result (Leaves S.now S.marks S.field_types 0 self.old self.new) }
-        ensures err { OnErr result (FailsIn S.now S.marks S.field_types self.old self.new) }
+        ensures ok { IfOk result (Goes S.state (λ p part. is_instance p of.now v) self.old self.new) }
+        ensures light { IfOk result (Leaves S.state 0 self.old self.new) }
+        ensures err { OnErr result (FailsIn S.state self.old self.new) }
     {
         match v {
             Cell::Null => self.end(Outcome::Value(Cell::Bool(false))),
@@ -81,12 +76,10 @@ impl<'p, S: Store + Drop> Running<'p, S> {
 
     /// `throw` (JLS 14.18).
     pub fn throw(&mut self, v: Cell<u32>) -> Result<Focus<'p>, OutOfMemory>
-        requires fields { HasFields (point S.now S.marks S.field_types self.old) }
-        ensures ok { IfOk result (Goes S.now S.marks S.field_types
-            (λ part. throw self.old.program.now v)
-            self.old self.new) }
-        ensures light { IfOk result (Leaves S.now S.marks S.field_types 0 self.old self.new) }
-        ensures err { OnErr result (FailsIn S.now S.marks S.field_types self.old self.new) }
+        requires fields { HasFields (point S.state self.old) }
+        ensures ok { IfOk result (Goes S.state (λ p part. throw p v) self.old self.new) }
+        ensures light { IfOk result (Leaves S.state 0 self.old self.new) }
+        ensures err { OnErr result (FailsIn S.state self.old self.new) }
     {
         match v {
             Cell::Null => self.trap(BuiltIn::NullPointerException),

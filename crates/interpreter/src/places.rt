@@ -2,7 +2,9 @@
 
 ghost use Rattle.std.specs.Prelude.{IfOk, OnErr};
 ghost use Rattle.evaluation.specs.Objects.{at_index, with_element, with_field, within_array};
-ghost use Rattle.interpreter.specs.Frames.{point, at_place, Goes, Leaves, FailsIn, HasFields};
+ghost use Rattle.interpreter.specs.Frames.{at_place};
+ghost use Rattle.interpreter.specs.Setting.{point, HasFields};
+ghost use Rattle.interpreter.specs.Moves.{Goes, Leaves, FailsIn};
 
 use crate::frame::{Focus, PlaceUse};
 use crate::running::Running;
@@ -14,12 +16,10 @@ use object_cells::elements_count;
 impl<'p, S: Store + Drop> Running<'p, S> {
     /// Goes on with a place.
     pub fn at_place(&mut self, place: Place, then: PlaceUse<'p>) -> Result<Focus<'p>, OutOfMemory>
-        requires fields { HasFields (point S.now S.marks S.field_types self.old) }
-        ensures ok { IfOk result (Goes S.now S.marks S.field_types
-            (λ part. at_place self.old.program.now part then.entry place)
-            self.old self.new) }
-        ensures light { IfOk result (Leaves S.now S.marks S.field_types 0 self.old self.new) }
-        ensures err { OnErr result (FailsIn S.now S.marks S.field_types self.old self.new) }
+        requires fields { HasFields (point S.state self.old) }
+        ensures ok { IfOk result (Goes S.state (λ p part. at_place p part then.entry place) self.old self.new) }
+        ensures light { IfOk result (Leaves S.state 0 self.old self.new) }
+        ensures err { OnErr result (FailsIn S.state self.old self.new) }
     {
         match then {
             PlaceUse::Read => self.read_place(place),
@@ -35,12 +35,11 @@ impl<'p, S: Store + Drop> Running<'p, S> {
         at: u32,
         then: PlaceUse<'p>,
     ) -> Result<Focus<'p>, OutOfMemory>
-        requires fields { HasFields (point S.now S.marks S.field_types self.old) }
-        ensures ok { IfOk result (Goes S.now S.marks S.field_types
-            (λ part. with_field self.old.program.now object at (at_place self.old.program.now part then.entry))
-            self.old self.new) }
-        ensures light { IfOk result (Leaves S.now S.marks S.field_types 0 self.old self.new) }
-        ensures err { OnErr result (FailsIn S.now S.marks S.field_types self.old self.new) }
+        requires fields { HasFields (point S.state self.old) }
+        ensures ok { IfOk result (Goes S.state
+            (λ p part. with_field p object at (at_place p part then.entry)) self.old self.new) }
+        ensures light { IfOk result (Leaves S.state 0 self.old self.new) }
+        ensures err { OnErr result (FailsIn S.state self.old self.new) }
     {
         match object {
             Cell::Null => self.trap(BuiltIn::NullPointerException),
@@ -56,12 +55,11 @@ impl<'p, S: Store + Drop> Running<'p, S> {
         index: Cell<u32>,
         then: PlaceUse<'p>,
     ) -> Result<Focus<'p>, OutOfMemory>
-        requires fields { HasFields (point S.now S.marks S.field_types self.old) }
-        ensures ok { IfOk result (Goes S.now S.marks S.field_types
-            (λ part. with_element self.old.program.now array index (at_place self.old.program.now part then.entry))
-            self.old self.new) }
-        ensures light { IfOk result (Leaves S.now S.marks S.field_types 0 self.old self.new) }
-        ensures err { OnErr result (FailsIn S.now S.marks S.field_types self.old self.new) }
+        requires fields { HasFields (point S.state self.old) }
+        ensures ok { IfOk result (Goes S.state
+            (λ p part. with_element p array index (at_place p part then.entry)) self.old self.new) }
+        ensures light { IfOk result (Leaves S.state 0 self.old self.new) }
+        ensures err { OnErr result (FailsIn S.state self.old self.new) }
     {
         match array {
             Cell::Null => self.trap(BuiltIn::NullPointerException),
@@ -77,12 +75,11 @@ impl<'p, S: Store + Drop> Running<'p, S> {
         index: Cell<u32>,
         then: PlaceUse<'p>,
     ) -> Result<Focus<'p>, OutOfMemory>
-        requires fields { HasFields (point S.now S.marks S.field_types self.old) }
-        ensures ok { IfOk result (Goes S.now S.marks S.field_types
-            (λ part. at_index self.old.program.now o index (at_place self.old.program.now part then.entry))
-            self.old self.new) }
-        ensures light { IfOk result (Leaves S.now S.marks S.field_types 0 self.old self.new) }
-        ensures err { OnErr result (FailsIn S.now S.marks S.field_types self.old self.new) }
+        requires fields { HasFields (point S.state self.old) }
+        ensures ok { IfOk result (Goes S.state
+            (λ p part. at_index p o index (at_place p part then.entry)) self.old self.new) }
+        ensures light { IfOk result (Leaves S.state 0 self.old self.new) }
+        ensures err { OnErr result (FailsIn S.state self.old self.new) }
     {
         match index {
             Cell::Int(index) => match elements_count(&self.store, o) {
@@ -93,7 +90,7 @@ impl<'p, S: Store + Drop> Running<'p, S> {
         }
     }
 
-    // Goes on with the place of an element of the array with so many elements.
+    // Goes on with the place of an element of the array with that many elements.
     fn within_array(
         &mut self,
         o: u32,
@@ -101,12 +98,11 @@ impl<'p, S: Store + Drop> Running<'p, S> {
         count: u32,
         then: PlaceUse<'p>,
     ) -> Result<Focus<'p>, OutOfMemory>
-        requires fields { HasFields (point S.now S.marks S.field_types self.old) }
-        ensures ok { IfOk result (Goes S.now S.marks S.field_types
-            (λ part. within_array self.old.program.now o index (at_place self.old.program.now part then.entry) count)
-            self.old self.new) }
-        ensures light { IfOk result (Leaves S.now S.marks S.field_types 0 self.old self.new) }
-        ensures err { OnErr result (FailsIn S.now S.marks S.field_types self.old self.new) }
+        requires fields { HasFields (point S.state self.old) }
+        ensures ok { IfOk result (Goes S.state
+            (λ p part. within_array p o index (at_place p part then.entry) count) self.old self.new) }
+        ensures light { IfOk result (Leaves S.state 0 self.old self.new) }
+        ensures err { OnErr result (FailsIn S.state self.old self.new) }
     {
         match u32::try_from(index) {
             Ok(at) => {

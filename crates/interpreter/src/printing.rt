@@ -2,7 +2,7 @@
 
 ghost use Rattle.std.specs.Prelude.{◌≡◌, IfOk, OnErr, []};
 ghost use Rattle.evaluation.specs.Execute.{print_value, printed, prints};
-ghost use Rattle.interpreter.specs.Frames.{point, Goes, Leaves, FailsIn};
+ghost use Rattle.interpreter.specs.Moves.{Goes, Leaves, FailsIn};
 
 use crate::frame::Focus;
 use crate::running::Running;
@@ -15,20 +15,18 @@ use value_operators::print_bytes;
 impl<'p, S: Store + Drop> Running<'p, S> {
     /// A print of nothing, with a line feed where a line ends.
     pub fn print_nothing(&mut self, line: bool) -> Result<Focus<'p>, OutOfMemory>
-        ensures ok { IfOk result (Goes S.now S.marks S.field_types
-            (λ part. prints (printed line []))
-            self.old self.new) }
-        ensures light { IfOk result (Leaves S.now S.marks S.field_types 0 self.old self.new) }
-        ensures err { OnErr result (FailsIn S.now S.marks S.field_types self.old self.new) }
+        ensures ok { IfOk result (Goes S.state (λ p part. prints (printed line [])) self.old self.new) }
+        ensures light { IfOk result (Leaves S.state 0 self.old self.new) }
+        ensures err { OnErr result (FailsIn S.state self.old self.new) }
     {
         Ok(Focus::Print(line_end(self.alloc, line)?))
     }
 
-    /// A print of a value, with a line feed behind it where a line ends.
+    /// A print of a value, with a line feed after it where a line ends.
     pub fn print(&mut self, line: bool, v: Cell<u32>) -> Result<Focus<'p>, OutOfMemory>
-        ensures ok { IfOk result (Goes S.now S.marks S.field_types (λ part. print_value line v) self.old self.new) }
-        ensures light { IfOk result (Leaves S.now S.marks S.field_types 0 self.old self.new) }
-        ensures err { OnErr result (FailsIn S.now S.marks S.field_types self.old self.new) }
+        ensures ok { IfOk result (Goes S.state (λ p part. print_value line v) self.old self.new) }
+        ensures light { IfOk result (Leaves S.state 0 self.old self.new) }
+        ensures err { OnErr result (FailsIn S.state self.old self.new) }
     {
         match print_bytes(self.alloc, line, &v)? {
             Some(bytes) => Ok(Focus::Print(bytes)),
@@ -37,7 +35,7 @@ impl<'p, S: Store + Drop> Running<'p, S> {
     }
 }
 
-// The bytes behind what is printed.
+// The bytes after what is printed.
 fn line_end(alloc: Global, line: bool) -> Result<Vec<u8>, OutOfMemory>
     ensures { IfOk result (λ bytes. bytes.items ≡ printed line []) }
 {

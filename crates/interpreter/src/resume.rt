@@ -5,7 +5,10 @@ ghost use Rattle.evaluation.specs.Values.{concatenated};
 ghost use Rattle.evaluation.specs.Objects.{computed};
 ghost use Rattle.evaluation.specs.Calls.{leave};
 ghost use Rattle.evaluation.specs.World.{gives, normal_then, value_then};
-ghost use Rattle.interpreter.specs.Frames.{point, ended, followed, frame_calling, passed, plainly, used, Goes, Leaves, FailsIn, HasFields};
+ghost use Rattle.interpreter.specs.Frames.{ended, followed, passed, plainly, used};
+ghost use Rattle.interpreter.specs.Setting.{point, HasFields};
+ghost use Rattle.interpreter.specs.Weights.{frame_calling};
+ghost use Rattle.interpreter.specs.Moves.{Goes, Leaves, FailsIn};
 
 use crate::frame::{
     CallEnd, CallFrame, Callee, Focus, NormalFrame, PlaceUse, PlainFrame, ValueFrame,
@@ -24,12 +27,10 @@ impl<'p, S: Store + Drop> Running<'p, S> {
         frame: ValueFrame<'p>,
         v: Cell<u32>,
     ) -> Result<Focus<'p>, OutOfMemory>
-        requires fields { HasFields (point S.now S.marks S.field_types self.old) }
-        ensures ok { IfOk result (Goes S.now S.marks S.field_types
-            (λ part. used self.old.program.now part frame.entry v)
-            self.old self.new) }
-        ensures light { IfOk result (Leaves S.now S.marks S.field_types 0 self.old self.new) }
-        ensures err { OnErr result (FailsIn S.now S.marks S.field_types self.old self.new) }
+        requires fields { HasFields (point S.state self.old) }
+        ensures ok { IfOk result (Goes S.state (λ p part. used p part frame.entry v) self.old self.new) }
+        ensures light { IfOk result (Leaves S.state 0 self.old self.new) }
+        ensures err { OnErr result (FailsIn S.state self.old self.new) }
     {
         match frame {
             ValueFrame::Field(at) => self.with_field(v, at, PlaceUse::Read),
@@ -74,14 +75,12 @@ impl<'p, S: Store + Drop> Running<'p, S> {
         }
     }
 
-    // The texts of two values, one behind the other (JLS 15.18.1).
+    // The texts of two values, one after the other (JLS 15.18.1).
     fn concat(&mut self, x: &Cell<u32>, y: &Cell<u32>) -> Result<Focus<'p>, OutOfMemory>
-        requires fields { HasFields (point S.now S.marks S.field_types self.old) }
-        ensures ok { IfOk result (Goes S.now S.marks S.field_types
-            (λ part. computed self.old.program.now (concatenated x.now y.now))
-            self.old self.new) }
-        ensures light { IfOk result (Leaves S.now S.marks S.field_types 0 self.old self.new) }
-        ensures err { OnErr result (FailsIn S.now S.marks S.field_types self.old self.new) }
+        requires fields { HasFields (point S.state self.old) }
+        ensures ok { IfOk result (Goes S.state (λ p part. computed p (concatenated x.now y.now)) self.old self.new) }
+        ensures light { IfOk result (Leaves S.state 0 self.old self.new) }
+        ensures err { OnErr result (FailsIn S.state self.old self.new) }
     {
         let came = concatenated(self.alloc, x, y)?;
         self.come_to(came)
@@ -93,12 +92,11 @@ impl<'p, S: Store + Drop> Running<'p, S> {
         frame: CallFrame<'p>,
         v: Cell<u32>,
     ) -> Result<Focus<'p>, OutOfMemory>
-        requires fields { HasFields (point S.now S.marks S.field_types self.old) }
-        ensures ok { IfOk result (Goes S.now S.marks S.field_types
-            (λ part. passed self.old.program.now part frame.entry v)
-            self.old self.new) }
-        ensures light { IfOk result (Leaves S.now S.marks S.field_types (frame_calling (length self.old.program.now.classes) frame.entry) self.old self.new) }
-        ensures err { OnErr result (FailsIn S.now S.marks S.field_types self.old self.new) }
+        requires fields { HasFields (point S.state self.old) }
+        ensures ok { IfOk result (Goes S.state (λ p part. passed p part frame.entry v) self.old self.new) }
+        ensures light { IfOk result (Leaves S.state
+            (frame_calling (length self.old.program.now.classes) frame.entry) self.old self.new) }
+        ensures err { OnErr result (FailsIn S.state self.old self.new) }
     {
         match frame {
             CallFrame::Receiver(selector, given) => {
@@ -118,12 +116,11 @@ impl<'p, S: Store + Drop> Running<'p, S> {
         frame: ValueFrame<'p>,
         o: Outcome,
     ) -> Result<Focus<'p>, OutOfMemory>
-        requires fields { HasFields (point S.now S.marks S.field_types self.old) }
-        ensures ok { IfOk result (Goes S.now S.marks S.field_types
-            (λ part w. value_then (used self.old.program.now part frame.entry) (gives o w))
-            self.old self.new) }
-        ensures light { IfOk result (Leaves S.now S.marks S.field_types 0 self.old self.new) }
-        ensures err { OnErr result (FailsIn S.now S.marks S.field_types self.old self.new) }
+        requires fields { HasFields (point S.state self.old) }
+        ensures ok { IfOk result (Goes S.state
+            (λ p part w. value_then (used p part frame.entry) (gives o w)) self.old self.new) }
+        ensures light { IfOk result (Leaves S.state 0 self.old self.new) }
+        ensures err { OnErr result (FailsIn S.state self.old self.new) }
     {
         match o {
             Outcome::Value(v) => self.use_value(frame, v),
@@ -144,12 +141,12 @@ impl<'p, S: Store + Drop> Running<'p, S> {
         frame: CallFrame<'p>,
         o: Outcome,
     ) -> Result<Focus<'p>, OutOfMemory>
-        requires fields { HasFields (point S.now S.marks S.field_types self.old) }
-        ensures ok { IfOk result (Goes S.now S.marks S.field_types
-            (λ part w. value_then (passed self.old.program.now part frame.entry) (gives o w))
-            self.old self.new) }
-        ensures light { IfOk result (Leaves S.now S.marks S.field_types (frame_calling (length self.old.program.now.classes) frame.entry) self.old self.new) }
-        ensures err { OnErr result (FailsIn S.now S.marks S.field_types self.old self.new) }
+        requires fields { HasFields (point S.state self.old) }
+        ensures ok { IfOk result (Goes S.state
+            (λ p part w. value_then (passed p part frame.entry) (gives o w)) self.old self.new) }
+        ensures light { IfOk result (Leaves S.state
+            (frame_calling (length self.old.program.now.classes) frame.entry) self.old self.new) }
+        ensures err { OnErr result (FailsIn S.state self.old self.new) }
     {
         match o {
             Outcome::Value(v) => self.pass_value(frame, v),
@@ -170,11 +167,10 @@ impl<'p, S: Store + Drop> Running<'p, S> {
         frame: NormalFrame<'p>,
         o: Outcome,
     ) -> Result<Focus<'p>, OutOfMemory>
-        ensures ok { IfOk result (Goes S.now S.marks S.field_types
-            (λ part w. normal_then (followed self.old.program.now part frame.entry) (gives o w))
-            self.old self.new) }
-        ensures light { IfOk result (Leaves S.now S.marks S.field_types 0 self.old self.new) }
-        ensures err { OnErr result (FailsIn S.now S.marks S.field_types self.old self.new) }
+        ensures ok { IfOk result (Goes S.state
+            (λ p part w. normal_then (followed p part frame.entry) (gives o w)) self.old self.new) }
+        ensures light { IfOk result (Leaves S.state 0 self.old self.new) }
+        ensures err { OnErr result (FailsIn S.state self.old self.new) }
     {
         match o {
             Outcome::Normal => self.follow(frame),
@@ -191,11 +187,9 @@ impl<'p, S: Store + Drop> Running<'p, S> {
 
     // Goes on after a part that ended normally.
     fn follow(&mut self, frame: NormalFrame<'p>) -> Result<Focus<'p>, OutOfMemory>
-        ensures ok { IfOk result (Goes S.now S.marks S.field_types
-            (λ part. followed self.old.program.now part frame.entry)
-            self.old self.new) }
-        ensures light { IfOk result (Leaves S.now S.marks S.field_types 0 self.old self.new) }
-        ensures err { OnErr result (FailsIn S.now S.marks S.field_types self.old self.new) }
+        ensures ok { IfOk result (Goes S.state (λ p part. followed p part frame.entry) self.old self.new) }
+        ensures light { IfOk result (Leaves S.state 0 self.old self.new) }
+        ensures err { OnErr result (FailsIn S.state self.old self.new) }
     {
         match frame {
             NormalFrame::Rest(statements) => self.block(statements),
@@ -212,11 +206,9 @@ impl<'p, S: Store + Drop> Running<'p, S> {
         frame: PlainFrame<'p>,
         o: Outcome,
     ) -> Result<Focus<'p>, OutOfMemory>
-        ensures ok { IfOk result (Goes S.now S.marks S.field_types
-            (λ part w. plainly self.old.program.now part frame.entry (gives o w))
-            self.old self.new) }
-        ensures light { IfOk result (Leaves S.now S.marks S.field_types 0 self.old self.new) }
-        ensures err { OnErr result (FailsIn S.now S.marks S.field_types self.old self.new) }
+        ensures ok { IfOk result (Goes S.state (λ p part w. plainly p part frame.entry (gives o w)) self.old self.new) }
+        ensures light { IfOk result (Leaves S.state 0 self.old self.new) }
+        ensures err { OnErr result (FailsIn S.state self.old self.new) }
     {
         match frame {
             PlainFrame::Leave(end, this, locals) => self.leave(end, this, locals, o),
@@ -234,11 +226,10 @@ impl<'p, S: Store + Drop> Running<'p, S> {
         locals: Items<Cell<u32>>,
         o: Outcome,
     ) -> Result<Focus<'p>, OutOfMemory>
-        ensures ok { IfOk result (Goes S.now S.marks S.field_types
-            (λ part w. leave (ended end.entry) this locals (gives o w))
-            self.old self.new) }
-        ensures light { IfOk result (Leaves S.now S.marks S.field_types 0 self.old self.new) }
-        ensures err { OnErr result (FailsIn S.now S.marks S.field_types self.old self.new) }
+        ensures ok { IfOk result (Goes S.state
+            (λ p part w. leave (ended end.entry) this locals (gives o w)) self.old self.new) }
+        ensures light { IfOk result (Leaves S.state 0 self.old self.new) }
+        ensures err { OnErr result (FailsIn S.state self.old self.new) }
     {
         self.this = this;
         self.locals = locals;

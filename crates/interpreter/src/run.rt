@@ -3,19 +3,19 @@
 ghost use Rattle.std.specs.Prelude.{◌≡◌, ℕ, IfOk, List, [], map};
 ghost use Rattle.core_tree.specs.declared.program.Method.{Method as MainMethod};
 ghost use Rattle.heap_arena.specs.Heap.{cell_at};
+ghost use Rattle.heap_arena.specs.State.{new_state, ChangesHeap};
 ghost use Rattle.evaluation.specs.Objects.{field_types, message_place};
 ghost use Rattle.evaluation.specs.Run.{ending_of, message_of, uncaught};
-ghost use Rattle.interpreter.specs.Machine.{text_of, BeginsAs, EndsRun, IsBegun, IsFirst, IsFresh, IsMain, Tells, TellsEnd};
+ghost use Rattle.interpreter.specs.Machine.{is_refused, text_of, BeginsAs, EndsRun, IsBegun, IsFirst, IsMain, Tells, TellsEnd};
 
 use crate::arguments::{has_long_argument, put_arguments};
 use crate::calls::{MESSAGE_PLACE, with_defaults};
 use crate::frame::{EarlyEnd, Focus, Frame, NormalFrame};
 use crate::running::Running;
-use crate::stack::Stack;
 use crate::stop::RunStop;
 use core_tree::{Method, OutOfMemory, Program, Text, What};
 use evaluation::Outcome;
-use heap_arena::{Cell, Store};
+use heap_arena::{Cell, Stack, Store};
 use object_cells::{cell, class_at};
 use pb_io::Sink;
 use sqlite_items::Items;
@@ -47,9 +47,9 @@ pub fn run_main<S: Store + Drop, O: Sink>(
     steps: u64,
     sink: &mut O,
 ) -> Ended<S>
-    requires fresh { IsFresh program.now (S.now store) (S.marks store) (S.field_types store) }
+    requires fresh { S.state store ≡ new_state program.now }
     ensures { EndsRun program.now (map text_of args.now) steps (O.state sink.old) (O.state sink.new)
-        (S.now result.store) (S.marks result.store) result.taken result.stop }
+        (S.state result.store) result.taken result.sink_refused result.stop }
 {
     let mut store = store;
     let Some(main) = program.methods.get(program.main as usize) else {
@@ -78,10 +78,9 @@ fn begin<'p, S: Store>(
     store: &mut S,
     args: &[String],
 ) -> Result<Beginning<'p>, RunStop>
-    requires empty { S.now store.old ≡ [] }
-    ensures begun { BeginsAs main.entry.now (map text_of args.now) (S.now store.new) result }
-    ensures marks { S.marks store.new ≡ S.marks store.old }
-    ensures field_types { S.field_types store.new ≡ S.field_types store.old }
+    requires empty { (S.state store.old).now ≡ [] }
+    ensures begun { BeginsAs main.entry.now (map text_of args.now) (S.state store.new).now result }
+    ensures others { ChangesHeap (S.state store.old) (S.state store.new) }
 {
     if has_long_argument(alloc, args)? {
         return Err(RunStop::Full(What::Text));
@@ -111,10 +110,13 @@ fn run_body<'p, S: Store + Drop, O: Sink>(
     steps: u64,
     sink: &mut O,
 ) -> Ended<S>
-    requires fields { S.field_types store ≡ field_types program.now }
-    ensures { (args : List (List ℕ)) (main : MainMethod) → IsMain program.entry.now main → IsBegun main args (S.now store) beginning.entry → S.marks store ≡ [] →
+    requires fields { (S.state store).field_types ≡ field_types program.now }
+    ensures { (args : List (List ℕ)) (main : MainMethod) →
+        IsMain program.entry.now main →
+        IsBegun main args (S.state store).now beginning.entry →
+        (S.state store).marks ≡ [] →
         EndsRun program.entry.now args steps (O.state sink.old) (O.state sink.new)
-        (S.now result.store) (S.marks result.store) result.taken result.stop }
+        (S.state result.store) result.taken result.sink_refused result.stop }
 {
     let mut running = Running {
         program,
@@ -128,7 +130,7 @@ fn run_body<'p, S: Store + Drop, O: Sink>(
         alloc,
     };
     let ended = running.drive(Focus::Answer(Outcome::Normal), sink);
-    let sink_refused = matches!(ended, Err(EarlyEnd::Refused(_)));
+    let sink_refused = is_refused(&ended);
     let stop = running.stop(ended);
     Ended {
         store: running.store,
@@ -138,10 +140,17 @@ fn run_body<'p, S: Store + Drop, O: Sink>(
     }
 }
 
+// Whether a call of the sink ended the run.
+fn is_refused(ended: &Result<Outcome, EarlyEnd>) -> bool
+    ensures { result ≡ is_refused ended.now }
+{
+    matches!(ended, Err(EarlyEnd::Refused(_)))
+}
+
 impl<'p, S: Store + Drop> Running<'p, S> {
     // How the run ended, or `None` where it was stuck.
     fn stop(&self, ended: Result<Outcome, EarlyEnd>) -> Option<RunStop>
-        ensures { Tells (S.now self.now.store) ended result }
+        ensures { Tells (S.state self.now.store).now ended result }
     {
         match ended {
             Ok(outcome) => self.stop_of(outcome),
@@ -151,7 +160,7 @@ impl<'p, S: Store + Drop> Running<'p, S> {
 
     // How a run ended with this outcome.
     fn stop_of(&self, o: Outcome) -> Option<RunStop>
-        ensures { TellsEnd (ending_of (S.now self.now.store) o) result }
+        ensures { TellsEnd (ending_of (S.state self.now.store).now o) result }
     {
         match o {
             Outcome::Normal | Outcome::Return(_) => Some(RunStop::Done),
@@ -164,7 +173,7 @@ impl<'p, S: Store + Drop> Running<'p, S> {
 
     // The stop of an exception that nothing caught.
     fn uncaught(&self, o: u32) -> Option<RunStop>
-        ensures { TellsEnd (uncaught (S.now self.now.store) o) result }
+        ensures { TellsEnd (uncaught (S.state self.now.store).now o) result }
     {
         let class = class_at(&self.store, o)?;
         match self.message(o) {
@@ -175,7 +184,7 @@ impl<'p, S: Store + Drop> Running<'p, S> {
 
     // The text in the message field of an object.
     fn message(&self, o: u32) -> Result<Option<Text>, OutOfMemory>
-        ensures { IfOk result (λ message. message ≡ message_of (cell_at (S.now self.now.store) o message_place)) }
+        ensures { IfOk result (λ message. message ≡ message_of (cell_at (S.state self.now.store).now o message_place)) }
     {
         match cell(&self.store, o, MESSAGE_PLACE)? {
             Some(Cell::Text(message)) => Ok(Some(message)),

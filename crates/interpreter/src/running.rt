@@ -1,13 +1,14 @@
 //! A run in progress. Callers of the machine don't see it.
 
-ghost use Rattle.std.specs.Prelude.{IfOk, OnOk, OnErr, false};
+ghost use Rattle.std.specs.Prelude.{IfOk, OnOk, OnErr};
 ghost use Rattle.evaluation.specs.World.{value_then};
-ghost use Rattle.interpreter.specs.Frames.{point, used, Pushes, Moves, Weighs, Fails};
+ghost use Rattle.interpreter.specs.Frames.{used};
+ghost use Rattle.interpreter.specs.Setting.{point};
+ghost use Rattle.interpreter.specs.Moves.{Pushes, Goes, Adds, FailsIn};
 
 use crate::frame::{Focus, Frame, ValueFrame};
-use crate::stack::Stack;
 use core_tree::{Expr, OutOfMemory, Program};
-use heap_arena::{Cell, Store};
+use heap_arena::{Cell, Stack, Store};
 use sqlite_items::{Boxed, Items};
 use std::alloc::Global;
 
@@ -31,10 +32,8 @@ pub struct Running<'p, S> {
 impl<'p, S: Store + Drop> Running<'p, S> {
     /// Puts a frame over those that are there.
     pub fn push(&mut self, frame: Frame<'p>) -> Result<(), OutOfMemory>
-        ensures ok { OnOk result (Pushes frame.entry
-            (point S.now S.marks S.field_types self.old) (point S.now S.marks S.field_types self.new)) }
-        ensures err { OnErr result (Fails
-            (point S.now S.marks S.field_types self.old) (point S.now S.marks S.field_types self.new)) }
+        ensures ok { OnOk result (Pushes frame.entry (point S.state self.old) (point S.state self.new)) }
+        ensures err { OnErr result (FailsIn S.state self.old self.new) }
     {
         self.frames.push(frame)?;
         Ok(())
@@ -46,13 +45,10 @@ impl<'p, S: Store + Drop> Running<'p, S> {
         e: &'p Boxed<Expr>,
         frame: ValueFrame<'p>,
     ) -> Result<Focus<'p>, OutOfMemory>
-        ensures ok { IfOk result (λ y. Moves false
-            (λ part w. value_then (used self.old.program.now part frame.entry) (part.expr e.entry.now w))
-            (point S.now S.marks S.field_types self.old) (point S.now S.marks S.field_types self.new) y) }
-        ensures light { IfOk result (λ y. Weighs 2
-            (point S.now S.marks S.field_types self.old) (point S.now S.marks S.field_types self.new) y) }
-        ensures err { OnErr result (Fails
-            (point S.now S.marks S.field_types self.old) (point S.now S.marks S.field_types self.new)) }
+        ensures ok { IfOk result (Goes S.state
+            (λ p part w. value_then (used p part frame.entry) (part.expr e.entry.now w)) self.old self.new) }
+        ensures light { IfOk result (Adds S.state 2 self.old self.new) }
+        ensures err { OnErr result (FailsIn S.state self.old self.new) }
     {
         self.push(Frame::Value(frame))?;
         Ok(Focus::Expr(e.get()))

@@ -5,7 +5,10 @@ ghost use Rattle.core_tree.specs.declared.stmt.Stmt.{out-Stmt};
 ghost use Rattle.evaluation.specs.declared.outcome.Outcome.TheVariants as outcome;
 ghost use Rattle.evaluation.specs.World.{gives};
 ghost use Rattle.evaluation.specs.Execute.{assign, stmt_node, update_place, with_target};
-ghost use Rattle.interpreter.specs.Frames.{point, declared, entry_weight, first_then, print_of, return_of, Goes, Leaves, FailsIn, HasFields};
+ghost use Rattle.interpreter.specs.Setting.{point, HasFields};
+ghost use Rattle.interpreter.specs.Weights.{entry_weight};
+ghost use Rattle.interpreter.specs.Moves.{Goes, Leaves, FailsIn};
+ghost use Rattle.interpreter.specs.Functions.{declared, first_then, print_of, return_of};
 
 use crate::calls::default_of;
 use crate::frame::{Focus, Frame, LoopParts, NormalFrame, ValueFrame};
@@ -18,12 +21,11 @@ use sqlite_items::{Boxed, Items};
 impl<'p, S: Store + Drop> Running<'p, S> {
     /// Goes on with the parts of a statement (JLS 14).
     pub fn enter_stmt(&mut self, s: &'p Stmt) -> Result<Focus<'p>, OutOfMemory>
-        requires fields { HasFields (point S.now S.marks S.field_types self.old) }
-        ensures ok { IfOk result (Goes S.now S.marks S.field_types
-            (λ part. stmt_node self.old.program.now part (out-Stmt s.now))
-            self.old self.new) }
-        ensures light { IfOk result (Leaves S.now S.marks S.field_types (entry_weight (length self.old.program.now.classes)) self.old self.new) }
-        ensures err { OnErr result (FailsIn S.now S.marks S.field_types self.old self.new) }
+        requires fields { HasFields (point S.state self.old) }
+        ensures ok { IfOk result (Goes S.state (λ p part. stmt_node p part (out-Stmt s.now)) self.old self.new) }
+        ensures light { IfOk result (Leaves S.state
+            (entry_weight (length self.old.program.now.classes)) self.old self.new) }
+        ensures err { OnErr result (FailsIn S.state self.old self.new) }
     {
         match s {
             Stmt::Empty => self.end(Outcome::Normal),
@@ -49,31 +51,27 @@ impl<'p, S: Store + Drop> Running<'p, S> {
 
     /// A part that is an expression.
     pub fn expr(&mut self, e: &'p Boxed<Expr>) -> Result<Focus<'p>, OutOfMemory>
-        ensures ok { IfOk result (Goes S.now S.marks S.field_types
-            (λ part. part.expr e.entry.now)
-            self.old self.new) }
-        ensures light { IfOk result (Leaves S.now S.marks S.field_types 0 self.old self.new) }
-        ensures err { OnErr result (FailsIn S.now S.marks S.field_types self.old self.new) }
+        ensures ok { IfOk result (Goes S.state (λ p part. part.expr e.entry.now) self.old self.new) }
+        ensures light { IfOk result (Leaves S.state 0 self.old self.new) }
+        ensures err { OnErr result (FailsIn S.state self.old self.new) }
     {
         Ok(Focus::Expr(e.get()))
     }
 
     /// A part that is a statement.
     pub fn stmt(&mut self, s: &'p Boxed<Stmt>) -> Result<Focus<'p>, OutOfMemory>
-        ensures ok { IfOk result (Goes S.now S.marks S.field_types
-            (λ part. part.stmt s.entry.now)
-            self.old self.new) }
-        ensures light { IfOk result (Leaves S.now S.marks S.field_types 0 self.old self.new) }
-        ensures err { OnErr result (FailsIn S.now S.marks S.field_types self.old self.new) }
+        ensures ok { IfOk result (Goes S.state (λ p part. part.stmt s.entry.now) self.old self.new) }
+        ensures light { IfOk result (Leaves S.state 0 self.old self.new) }
+        ensures err { OnErr result (FailsIn S.state self.old self.new) }
     {
         Ok(Focus::Stmt(s.get()))
     }
 
     /// A part that ended so.
     pub fn end(&mut self, o: Outcome) -> Result<Focus<'p>, OutOfMemory>
-        ensures ok { IfOk result (Goes S.now S.marks S.field_types (λ part. gives o) self.old self.new) }
-        ensures light { IfOk result (Leaves S.now S.marks S.field_types 0 self.old self.new) }
-        ensures err { OnErr result (FailsIn S.now S.marks S.field_types self.old self.new) }
+        ensures ok { IfOk result (Goes S.state (λ p part. gives o) self.old self.new) }
+        ensures light { IfOk result (Leaves S.state 0 self.old self.new) }
+        ensures err { OnErr result (FailsIn S.state self.old self.new) }
     {
         Ok(Focus::Answer(o))
     }
@@ -85,11 +83,9 @@ impl<'p, S: Store + Drop> Running<'p, S> {
         ty: &Ty,
         e: &'p Option<Boxed<Expr>>,
     ) -> Result<Focus<'p>, OutOfMemory>
-        ensures ok { IfOk result (Goes S.now S.marks S.field_types
-            (λ part. declared part at ty.now e.entry.now)
-            self.old self.new) }
-        ensures light { IfOk result (Leaves S.now S.marks S.field_types 0 self.old self.new) }
-        ensures err { OnErr result (FailsIn S.now S.marks S.field_types self.old self.new) }
+        ensures ok { IfOk result (Goes S.state (λ p part. declared part at ty.now e.entry.now) self.old self.new) }
+        ensures light { IfOk result (Leaves S.state 0 self.old self.new) }
+        ensures err { OnErr result (FailsIn S.state self.old self.new) }
     {
         match e {
             Some(e) => self.value_of(e, ValueFrame::WriteLocal(at)),
@@ -99,11 +95,9 @@ impl<'p, S: Store + Drop> Running<'p, S> {
 
     // The parts of an assignment's target, the value, and then the store (JLS 15.26.1).
     fn assign(&mut self, to: &'p Target, e: &'p Boxed<Expr>) -> Result<Focus<'p>, OutOfMemory>
-        ensures ok { IfOk result (Goes S.now S.marks S.field_types
-            (λ part. assign self.old.program.now part to.entry.now e.entry.now)
-            self.old self.new) }
-        ensures light { IfOk result (Leaves S.now S.marks S.field_types 0 self.old self.new) }
-        ensures err { OnErr result (FailsIn S.now S.marks S.field_types self.old self.new) }
+        ensures ok { IfOk result (Goes S.state (λ p part. assign p part to.entry.now e.entry.now) self.old self.new) }
+        ensures light { IfOk result (Leaves S.state 0 self.old self.new) }
+        ensures err { OnErr result (FailsIn S.state self.old self.new) }
     {
         match to {
             Target::Local(at) => self.value_of(e, ValueFrame::WriteLocal(*at)),
@@ -119,12 +113,11 @@ impl<'p, S: Store + Drop> Running<'p, S> {
         op: UpOp,
         e: &'p Option<Boxed<Expr>>,
     ) -> Result<Focus<'p>, OutOfMemory>
-        requires fields { HasFields (point S.now S.marks S.field_types self.old) }
-        ensures ok { IfOk result (Goes S.now S.marks S.field_types
-            (λ part. with_target self.old.program.now part to.entry.now (update_place self.old.program.now part op e.entry.now))
-            self.old self.new) }
-        ensures light { IfOk result (Leaves S.now S.marks S.field_types 0 self.old self.new) }
-        ensures err { OnErr result (FailsIn S.now S.marks S.field_types self.old self.new) }
+        requires fields { HasFields (point S.state self.old) }
+        ensures ok { IfOk result (Goes S.state
+            (λ p part. with_target p part to.entry.now (update_place p part op e.entry.now)) self.old self.new) }
+        ensures light { IfOk result (Leaves S.state 0 self.old self.new) }
+        ensures err { OnErr result (FailsIn S.state self.old self.new) }
     {
         match to {
             Target::Local(at) => self.update_place(op, e, Place::Local(*at)),
@@ -139,11 +132,9 @@ impl<'p, S: Store + Drop> Running<'p, S> {
         line: bool,
         e: &'p Option<Boxed<Expr>>,
     ) -> Result<Focus<'p>, OutOfMemory>
-        ensures ok { IfOk result (Goes S.now S.marks S.field_types
-            (λ part. print_of part line e.entry.now)
-            self.old self.new) }
-        ensures light { IfOk result (Leaves S.now S.marks S.field_types 0 self.old self.new) }
-        ensures err { OnErr result (FailsIn S.now S.marks S.field_types self.old self.new) }
+        ensures ok { IfOk result (Goes S.state (λ p part. print_of part line e.entry.now) self.old self.new) }
+        ensures light { IfOk result (Leaves S.state 0 self.old self.new) }
+        ensures err { OnErr result (FailsIn S.state self.old self.new) }
     {
         match e {
             Some(e) => self.value_of(e, ValueFrame::Print(line)),
@@ -153,11 +144,9 @@ impl<'p, S: Store + Drop> Running<'p, S> {
 
     // A `return`, with a value where it has one (JLS 14.17).
     fn enter_return(&mut self, e: &'p Option<Boxed<Expr>>) -> Result<Focus<'p>, OutOfMemory>
-        ensures ok { IfOk result (Goes S.now S.marks S.field_types
-            (λ part. return_of part e.entry.now)
-            self.old self.new) }
-        ensures light { IfOk result (Leaves S.now S.marks S.field_types 0 self.old self.new) }
-        ensures err { OnErr result (FailsIn S.now S.marks S.field_types self.old self.new) }
+        ensures ok { IfOk result (Goes S.state (λ p part. return_of part e.entry.now) self.old self.new) }
+        ensures light { IfOk result (Leaves S.state 0 self.old self.new) }
+        ensures err { OnErr result (FailsIn S.state self.old self.new) }
     {
         match e {
             Some(e) => self.value_of(e, ValueFrame::Return),
@@ -171,11 +160,10 @@ impl<'p, S: Store + Drop> Running<'p, S> {
         first: &'p Items<Stmt>,
         parts: LoopParts<'p>,
     ) -> Result<Focus<'p>, OutOfMemory>
-        ensures ok { IfOk result (Goes S.now S.marks S.field_types
-            (λ part. first_then self.old.program.now part first.entry.now parts.entry)
-            self.old self.new) }
-        ensures light { IfOk result (Leaves S.now S.marks S.field_types 2 self.old self.new) }
-        ensures err { OnErr result (FailsIn S.now S.marks S.field_types self.old self.new) }
+        ensures ok { IfOk result (Goes S.state
+            (λ p part. first_then p part first.entry.now parts.entry) self.old self.new) }
+        ensures light { IfOk result (Leaves S.state 2 self.old self.new) }
+        ensures err { OnErr result (FailsIn S.state self.old self.new) }
     {
         self.push(Frame::Normal(NormalFrame::FirstTurn(parts)))?;
         self.block(first.as_slice())

@@ -1,5 +1,5 @@
 use Rattle.std.proofs.Common.{◌≡◌, ◌-◌, drop, length}
-use Rattle.interpreter.specs.Frames.{next_start}
+use Rattle.interpreter.specs.Starts.{next_start}
 use Rattle.interpreter.proofs.makers.next_start.Given as goal
 
 abbrev pub invariant-loop-at : goal.invariant-loop-at

@@ -1,4 +1,4 @@
-use Rattle.interpreter.specs.Frames.{messaged}
+use Rattle.interpreter.specs.Functions.{messaged}
 use Rattle.interpreter.proofs.Moves.{unmade}
 use Rattle.interpreter.proofs.running.Running.new_built_in.Goals as goal
 

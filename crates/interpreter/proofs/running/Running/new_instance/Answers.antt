@@ -1,5 +1,5 @@
 use Rattle.std.proofs.lemmas.Result.{IfOk-weaker}
-use Rattle.interpreter.specs.Frames.{new_from}
+use Rattle.interpreter.specs.Functions.{new_from}
 use Rattle.interpreter.proofs.Moves.{news, unmade}
 use Rattle.interpreter.proofs.running.Running.new_instance.Goals as goal
 

@@ -31,7 +31,8 @@ text_null : default_of ty.Text ≡ value.Null
 unfolding shape.out-Ty denote.Hole.Carrier.out
 text_null = refl
 
-pub begins : (fields : List (List Ty)) (texts : List (List ℕ)) → made fields [] (kind.Array ty.Text) (length texts) ≡ filled texts 0
+pub begins : (fields : List (List Ty)) (texts : List (List ℕ))
+    → made fields [] (kind.Array ty.Text) (length texts) ≡ filled texts 0
 begins fields texts = ap (λ (vs : List Value). record { kind = kind.Array ty.Text; cells = vs } ∷ []) (ap (replicate (length texts)) text_null ∙ none_yet texts)
 
 all_there : (texts : List (List ℕ)) → cells texts (length texts) ≡ map value.Text texts
@@ -51,17 +52,20 @@ next_null (t ∷ ts) (suc k) lt = next_null ts k (omega arith)
 pub has_next : (texts : List (List ℕ)) (k : ℕ) → k < length texts → has_cell (filled texts k) 0 k ≡ true
 has_next texts k lt = rw (next_null texts k lt) refl
 
-put : (texts : List (List ℕ)) (k : ℕ) (t : List ℕ) → slice_get texts k ≡ Some t → slice_set (cells texts k) k (value.Text t) ≡ cells texts (suc k)
+put : (texts : List (List ℕ)) (k : ℕ) (t : List ℕ) → slice_get texts k ≡ Some t
+    → slice_set (cells texts k) k (value.Text t) ≡ cells texts (suc k)
 unfolding cells
 put [] k t is = cc
 put (x ∷ xs) zero t is = ap (λ text. value.Text text ∷ cells xs zero) (sym (inj x t is))
 put (x ∷ xs) (suc k) t is = ap (λ vs. value.Text x ∷ vs) (put xs k t is)
 
-pub further : (texts : List (List ℕ)) (k : ℕ) (t : List ℕ) → slice_get texts k ≡ Some t → written (filled texts k) 0 k (value.Text t) ≡ filled texts (suc k)
+pub further : (texts : List (List ℕ)) (k : ℕ) (t : List ℕ) → slice_get texts k ≡ Some t
+    → written (filled texts k) 0 k (value.Text t) ≡ filled texts (suc k)
 further texts k t is = ap (λ (vs : List Value). record { kind = kind.Array ty.Text; cells = vs } ∷ []) (put texts k t is)
 
 -- each of the arguments is short
-pub short_at : (texts : List (List ℕ)) (k : ℕ) (t : List ℕ) → IsTrue (has_short_arguments texts) → slice_get texts k ≡ Some t → code_units t ≤ most_units
+pub short_at : (texts : List (List ℕ)) (k : ℕ) (t : List ℕ) → IsTrue (has_short_arguments texts)
+    → slice_get texts k ≡ Some t → code_units t ≤ most_units
 short_at [] k t short is = cc
 short_at (x ∷ xs) zero t short is = subst (λ text. code_units text ≤ most_units) (inj x t is) (leb-true (code_units x) most_units (and_l (nat_le (code_units x) most_units) (has_short_arguments xs) short))
 short_at (x ∷ xs) (suc k) t short is = short_at xs k t (and_r (nat_le (code_units x) most_units) (has_short_arguments xs) short) is

@@ -30,24 +30,29 @@ use Rattle.interpreter.proofs.Opens.{opens_expr, opens_stmt, opens_loop}
 abbrev pub answer : Outcome → World → List ℕ → List KeptCall → Answer
 answer o w out kept = record { outcome = o; world = w; out = out; kept = kept }
 
-pub after_after : (a b : List ℕ) (kept : List KeptCall) (x : Answer) → after a [] (after b kept x) ≡ after (a ++ b) kept x
+pub after_after : (a b : List ℕ) (kept : List KeptCall) (x : Answer)
+    → after a [] (after b kept x) ≡ after (a ++ b) kept x
 after_after a b kept x = ap (λ out. answer x.outcome x.world out (kept ++ x.kept)) (sym (append_assoc a b x.out))
 
 -- ---- what was printed before stays before
 
-value_after : (go : Value → Run) (out : List ℕ) (o : Outcome) (w : World) (more : List ℕ) (kept : List KeptCall) → value_then go (answer o w (out ++ more) kept) ≡ after out [] (value_then go (answer o w more kept))
+value_after : (go : Value → Run) (out : List ℕ) (o : Outcome) (w : World) (more : List ℕ) (kept : List KeptCall)
+    → value_then go (answer o w (out ++ more) kept) ≡ after out [] (value_then go (answer o w more kept))
 value_after go out (outcome.Value v) w more kept = sym (after_after out more kept (go v w))
 value_after go out _ w more kept = refl
 
-normal_after : (go : Run) (out : List ℕ) (o : Outcome) (w : World) (more : List ℕ) (kept : List KeptCall) → normal_then go (answer o w (out ++ more) kept) ≡ after out [] (normal_then go (answer o w more kept))
+normal_after : (go : Run) (out : List ℕ) (o : Outcome) (w : World) (more : List ℕ) (kept : List KeptCall)
+    → normal_then go (answer o w (out ++ more) kept) ≡ after out [] (normal_then go (answer o w more kept))
 normal_after go out outcome.Normal w more kept = sym (after_after out more kept (go w))
 normal_after go out _ w more kept = refl
 
-keeping_after : (e : Outcome) (out : List ℕ) (o : Outcome) (w : World) (more : List ℕ) (kept : List KeptCall) → keeping e (answer o w (out ++ more) kept) ≡ after out [] (keeping e (answer o w more kept))
+keeping_after : (e : Outcome) (out : List ℕ) (o : Outcome) (w : World) (more : List ℕ) (kept : List KeptCall)
+    → keeping e (answer o w (out ++ more) kept) ≡ after out [] (keeping e (answer o w more kept))
 keeping_after e out outcome.Normal w more kept = refl
 keeping_after e out _ w more kept = refl
 
-finally_after : (go : Run) (out : List ℕ) (o : Outcome) (w : World) (more : List ℕ) (kept : List KeptCall) → finally go (answer o w (out ++ more) kept) ≡ after out [] (finally go (answer o w more kept))
+finally_after : (go : Run) (out : List ℕ) (o : Outcome) (w : World) (more : List ℕ) (kept : List KeptCall)
+    → finally go (answer o w (out ++ more) kept) ≡ after out [] (finally go (answer o w more kept))
 finally_after go out outcome.Spent w more kept = refl
 finally_after go out (outcome.Full what) w more kept = refl
 finally_after go out outcome.Stuck w more kept = refl
@@ -59,23 +64,27 @@ finally_after go out outcome.Continue w more kept = sym (after_after out more ke
 finally_after go out (outcome.Throw o) w more kept = sym (after_after out more kept (keeping (outcome.Throw o) (go w)))
 
 module _ (p : Program) (part : Parts) where
-  body_after : (l : Loop) (out : List ℕ) (o : Outcome) (w : World) (more : List ℕ) (kept : List KeptCall) → after_body p part l (answer o w (out ++ more) kept) ≡ after out [] (after_body p part l (answer o w more kept))
+  body_after : (l : Loop) (out : List ℕ) (o : Outcome) (w : World) (more : List ℕ) (kept : List KeptCall)
+      → after_body p part l (answer o w (out ++ more) kept) ≡ after out [] (after_body p part l (answer o w more kept))
   body_after l out outcome.Normal w more kept = sym (after_after out more kept (normal_then (part.loop l) (block p part l.updates w)))
   body_after l out outcome.Continue w more kept = sym (after_after out more kept (normal_then (part.loop l) (block p part l.updates w)))
   body_after l out outcome.Break w more kept = sym (after_after out more kept (gives outcome.Normal w))
   body_after l out _ w more kept = refl
 
-  catching_after : (ks : List Catch) (out : List ℕ) (o : Outcome) (w : World) (more : List ℕ) (kept : List KeptCall) → catching p part ks (answer o w (out ++ more) kept) ≡ after out [] (catching p part ks (answer o w more kept))
+  catching_after : (ks : List Catch) (out : List ℕ) (o : Outcome) (w : World) (more : List ℕ) (kept : List KeptCall)
+      → catching p part ks (answer o w (out ++ more) kept) ≡ after out [] (catching p part ks (answer o w more kept))
   catching_after ks out (outcome.Throw o) w more kept = sym (after_after out more kept (catch_object p part ks o w))
   catching_after ks out _ w more kept = refl
 
-  plainly_after : (x : PlainFrame) (out : List ℕ) (a : Answer) → plainly p part x (after out [] a) ≡ after out [] (plainly p part x a)
+  plainly_after : (x : PlainFrame) (out : List ℕ) (a : Answer)
+      → plainly p part x (after out [] a) ≡ after out [] (plainly p part x a)
   plainly_after (plain.Leave e this locals) out a = refl
   plainly_after (plain.Catching ks) out a = catching_after ks.now out a.outcome a.world a.out a.kept
   plainly_after (plain.Finally s) out a = finally_after (part.stmt s.now) out a.outcome a.world a.out a.kept
   plainly_after (plain.Finished o) out a = keeping_after o out a.outcome a.world a.out a.kept
 
-  resumed_after : (x : Frame) (out : List ℕ) (a : Answer) → resumed p part x (after out [] a) ≡ after out [] (resumed p part x a)
+  resumed_after : (x : Frame) (out : List ℕ) (a : Answer)
+      → resumed p part x (after out [] a) ≡ after out [] (resumed p part x a)
   resumed_after (frame.Value x) out a = value_after (used p part x) out a.outcome a.world a.out a.kept
   resumed_after (frame.Call x) out a = value_after (passed p part x) out a.outcome a.world a.out a.kept
   resumed_after (frame.Loop (loop.Body l)) out a = body_after (loop_of l) out a.outcome a.world a.out a.kept
@@ -85,14 +94,16 @@ module _ (p : Program) (part : Parts) where
 
 -- ---- stacks of frames
 
-pub stands_after : (p : Program) (g : ℕ) (xs : List Frame) (make : Answer → Answer) → Stands p g xs make → (out : List ℕ) (a : Answer) → make (after out [] a) ≡ after out [] (make a)
+pub stands_after : (p : Program) (g : ℕ) (xs : List Frame) (make : Answer → Answer) → Stands p g xs make
+    → (out : List ℕ) (a : Answer) → make (after out [] a) ≡ after out [] (make a)
 stands_after p g [] make st out a = st (after out [] a) ∙ ap (after out []) (sym (st a))
 stands_after p g (x ∷ xs) make st out a =
     st.4 (after out [] a) ∙ ap st.2 (resumed_after p (meaning p st.0) x out a)
     ∙ stands_after p g xs st.2 st.3 out (resumed p (meaning p st.0) x a)
     ∙ ap (after out []) (sym (st.4 a))
 
-pub stands_loosen : (p : Program) (g h : ℕ) (xs : List Frame) (make : Answer → Answer) → h ≤ g → Stands p g xs make → Stands p h xs make
+pub stands_loosen : (p : Program) (g h : ℕ) (xs : List Frame) (make : Answer → Answer) → h ≤ g → Stands p g xs make
+    → Stands p h xs make
 stands_loosen p g h [] make le st = st
 stands_loosen p g h (x ∷ xs) make le st = (st.0, (let l = st.1 in omega arith), st.2, stands_loosen p g h xs st.2 le st.3, st.4)
 
@@ -101,7 +112,8 @@ abbrev pub AreWanted : ℕ → ℕ → List Frame → Type 0
 AreWanted g k [] = Unit {0}
 AreWanted g k (x ∷ xs) = (g ≤ wanted x k) × AreWanted g k xs
 
-stands_push : (p : Program) (k g : ℕ) (ys xs : List Frame) (make : Answer → Answer) → AreWanted g k ys → Stands p g xs make → Stands p g (ys ++ xs) (λ a. make (stacked p (meaning p k) ys a))
+stands_push : (p : Program) (k g : ℕ) (ys xs : List Frame) (make : Answer → Answer) → AreWanted g k ys
+    → Stands p g xs make → Stands p g (ys ++ xs) (λ a. make (stacked p (meaning p k) ys a))
 stands_push p k g [] xs make le st = st
 stands_push p k g (y ∷ ys) xs make le st = (k, le.0, (λ a. make (stacked p (meaning p k) ys a)), stands_push p k g ys xs make le.1 st, λ a. refl)
 
@@ -145,7 +157,8 @@ pushed_wanted b (focus.Print bytes) xs f k fresh le = others_wanted (suc f) k xs
 pushed_wanted b (focus.Answer o) xs f k fresh le = others_wanted (suc f) k xs (omega arith) fresh
 
 -- the depth is enough for the focus
-deep_enough : (b : Bool) (y : Focus) (xs : List Frame) (f k : ℕ) → IsFresh b y xs → f ≤ k → (b ≡ true → suc f ≤ k) → depth_of y f ≤ k
+deep_enough : (b : Bool) (y : Focus) (xs : List Frame) (f k : ℕ) → IsFresh b y xs → f ≤ k → (b ≡ true → suc f ≤ k)
+    → depth_of y f ≤ k
 deep_enough b (focus.Expr e) xs f k fresh le strict = le
 deep_enough b (focus.Stmt s) xs f k fresh le strict = le
 deep_enough b (focus.Loop l) xs f k fresh le strict = strict fresh.0
@@ -161,7 +174,10 @@ room_low (focus.Construct n o args levels) f = omega arith
 room_low (focus.Print bytes) f = omega arith
 room_low (focus.Answer o) f = omega arith
 
-pub goes_on : (b : Bool) (node : Parts → Run) (m n : Point) (printed : List ℕ) (y : Focus) (k f : ℕ) (J : List Entry) (make : Answer → Answer) (whole : Answer) → Moves b node m n y → Stands m.setting.program (suc f) m.frames make → f ≤ k → (b ≡ true → suc f ≤ k) → whole ≡ after printed [] (make (node (meaning m.setting.program k) (world m f J))) → Gives n printed y f J whole
+pub goes_on : (b : Bool) (node : Parts → Run) (m n : Point) (printed : List ℕ) (y : Focus) (k f : ℕ) (J : List Entry)
+    (make : Answer → Answer) (whole : Answer)
+    → Moves b node m n y → Stands m.setting.program (suc f) m.frames make → f ≤ k → (b ≡ true → suc f ≤ k)
+    → whole ≡ after printed [] (make (node (meaning m.setting.program k) (world m f J))) → Gives n printed y f J whole
 goes_on b node m n printed y k f J make whole mv st le strict e =
     let p = m.setting.program in
     record {
@@ -181,7 +197,9 @@ stepped m = record m { taken = m.taken + 1 }
 pub no_strict : {f k : ℕ} → false ≡ true → suc f ≤ k
 no_strict h = cc
 
-pub at_expr : (m n : Point) (printed : List ℕ) (e : Bor Expr) (y : Focus) → Moves false (λ part. expr_node m.setting.program part (out-Expr e.now)) (stepped m) n y → (R : Runs) → At R m printed (focus.Expr e) → At R n printed y
+pub at_expr : (m n : Point) (printed : List ℕ) (e : Bor Expr) (y : Focus)
+    → Moves false (λ part. expr_node m.setting.program part (out-Expr e.now)) (stepped m) n y → (R : Runs)
+    → At R m printed (focus.Expr e) → At R n printed y
 at_expr m n printed e y mv R at = record {
   gives = λ f J.
       let p = m.setting.program in
@@ -192,7 +210,9 @@ at_expr m n printed e y mv R at = record {
       (ap (λ t. R t J) steps ∙ G.same ∙ ap (λ a. after printed [] (G.make a)) o.2);
 }
 
-pub at_stmt : (m n : Point) (printed : List ℕ) (s : Bor Stmt) (y : Focus) → Moves false (λ part. stmt_node m.setting.program part (out-Stmt s.now)) (stepped m) n y → (R : Runs) → At R m printed (focus.Stmt s) → At R n printed y
+pub at_stmt : (m n : Point) (printed : List ℕ) (s : Bor Stmt) (y : Focus)
+    → Moves false (λ part. stmt_node m.setting.program part (out-Stmt s.now)) (stepped m) n y → (R : Runs)
+    → At R m printed (focus.Stmt s) → At R n printed y
 at_stmt m n printed s y mv R at = record {
   gives = λ f J.
       let p = m.setting.program in
@@ -203,7 +223,9 @@ at_stmt m n printed s y mv R at = record {
       (ap (λ t. R t J) steps ∙ G.same ∙ ap (λ a. after printed [] (G.make a)) o.2);
 }
 
-pub at_loop : (m n : Point) (printed : List ℕ) (l : LoopParts) (y : Focus) → Moves false (λ part. turn m.setting.program part (loop_of l)) m n y → (R : Runs) → At R m printed (focus.Loop l) → At R n printed y
+pub at_loop : (m n : Point) (printed : List ℕ) (l : LoopParts) (y : Focus)
+    → Moves false (λ part. turn m.setting.program part (loop_of l)) m n y → (R : Runs) → At R m printed (focus.Loop l)
+    → At R n printed y
 at_loop m n printed l y mv R at = record {
   gives = λ f J.
       let p = m.setting.program in
@@ -215,7 +237,9 @@ at_loop m n printed l y mv R at = record {
 }
 
 -- a constructor is run
-pub at_construct : (m n : Point) (printed : List ℕ) (k o : ℕ) (args : List Value) (levels : ℕ) (y : Focus) → Moves false (λ part. construct m.setting.program part levels k o args) m n y → (R : Runs) → At R m printed (focus.Construct k o args levels) → At R n printed y
+pub at_construct : (m n : Point) (printed : List ℕ) (k o : ℕ) (args : List Value) (levels : ℕ) (y : Focus)
+    → Moves false (λ part. construct m.setting.program part levels k o args) m n y → (R : Runs)
+    → At R m printed (focus.Construct k o args levels) → At R n printed y
 at_construct m n printed k o args levels y mv R at = record {
   gives = λ f J.
       let G = at.gives f J in
@@ -225,7 +249,9 @@ at_construct m n printed k o args levels y mv R at = record {
 }
 
 -- a frame that isn't a loop's has been taken off m
-pub at_answer : (m n : Point) (printed : List ℕ) (x : Frame) (o : Outcome) (y : Focus) → is_other x ≡ true → Moves false (λ part w. resumed m.setting.program part x (gives o w)) m n y → (R : Runs) → At R (record m { frames = x ∷ m.frames }) printed (focus.Answer o) → At R n printed y
+pub at_answer : (m n : Point) (printed : List ℕ) (x : Frame) (o : Outcome) (y : Focus) → is_other x ≡ true
+    → Moves false (λ part w. resumed m.setting.program part x (gives o w)) m n y → (R : Runs)
+    → At R (record m { frames = x ∷ m.frames }) printed (focus.Answer o) → At R n printed y
 at_answer m n printed x o y other mv R at = record {
   gives = λ f J.
       let G = at.gives f J in
@@ -243,7 +269,9 @@ at_answer m n printed x o y other mv R at = record {
     wanted_at_most (frame.Plain x) f k le = omega arith
 
 -- a loop's frame has been taken off m: it is one turn deeper
-pub at_turn : (m n : Point) (printed : List ℕ) (x : LoopFrame) (o : Outcome) (y : Focus) → Moves true (λ part w. repeated m.setting.program part x (gives o w)) m n y → (R : Runs) → At R (record m { frames = frame.Loop x ∷ m.frames }) printed (focus.Answer o) → At R n printed y
+pub at_turn : (m n : Point) (printed : List ℕ) (x : LoopFrame) (o : Outcome) (y : Focus)
+    → Moves true (λ part w. repeated m.setting.program part x (gives o w)) m n y → (R : Runs)
+    → At R (record m { frames = frame.Loop x ∷ m.frames }) printed (focus.Answer o) → At R n printed y
 at_turn m n printed x o y mv R at = record {
   gives = λ f J.
       let G = at.gives f J in
@@ -255,12 +283,14 @@ at_turn m n printed x o y mv R at = record {
 }
 
 -- a print, as the frames see it: its bytes stand before all that they make
-pub prints_bytes : (p : Program) (g : ℕ) (xs : List Frame) (make : Answer → Answer) → Stands p g xs make → (bytes : List ℕ) (w : World) → make (prints bytes w) ≡ after bytes [] (make (gives outcome.Normal w))
+pub prints_bytes : (p : Program) (g : ℕ) (xs : List Frame) (make : Answer → Answer) → Stands p g xs make
+    → (bytes : List ℕ) (w : World) → make (prints bytes w) ≡ after bytes [] (make (gives outcome.Normal w))
 prints_bytes p g xs make st bytes w =
     ap (λ out. make (answer outcome.Normal w out [])) (sym (append-nil bytes)) ∙ stands_after p g xs make st bytes (gives outcome.Normal w)
 
 -- the bytes have been printed
-pub at_print : (m : Point) (printed : List ℕ) (bytes : Vec ℕ Global) (R : Runs) → At R m printed (focus.Print bytes) → At R m (printed ++ bytes.items) (focus.Answer outcome.Normal)
+pub at_print : (m : Point) (printed : List ℕ) (bytes : Vec ℕ Global) (R : Runs) → At R m printed (focus.Print bytes)
+    → At R m (printed ++ bytes.items) (focus.Answer outcome.Normal)
 at_print m printed bytes R at = record {
   gives = λ f J.
       let p = m.setting.program in

@@ -33,11 +33,17 @@ use Rattle.interpreter.specs.Points.{At, Ends, Stops, Drives, Runs}
 use Rattle.interpreter.specs.Machine.{is_refused, refusal, stopped, told, Refuses, Tells, TellsEnd, EndsBy, EndsIf, EndsRun, EndsWhole, Finishes, IsBegun, IsFullOf, IsMain, IsRefused}
 
 -- the run of a program whose arguments fit is that of main's body
-run_is : (p : Program) (args : List (List ℕ)) (main : Method) (steps : ℕ) (J : List Entry) → IsMain p main → has_short_arguments args ≡ true → nat_le (cell_count (arguments_heap args)) most_cells ≡ true → run p args steps J ≡ block p (meaning p steps) main.body (first_world main args steps J)
+run_is : (p : Program) (args : List (List ℕ)) (main : Method) (steps : ℕ) (J : List Entry) → IsMain p main
+    → has_short_arguments args ≡ true → nat_le (cell_count (arguments_heap args)) most_cells ≡ true
+    → run p args steps J ≡ block p (meaning p steps) main.body (first_world main args steps J)
 run_is p args main steps J is short fits = rw (is, short, fits) refl
 
 -- where main begins, each run of the program comes by
-pub at_begin : (m : Point) (args : List (List ℕ)) (main : Method) (rest : Bor (List Stmt)) → IsMain m.setting.program main → has_short_arguments args ≡ true → nat_le (cell_count (arguments_heap args)) most_cells ≡ true → m.frames ≡ frame.Normal (normal.Rest rest) ∷ [] → rest.now ≡ main.body → m.taken ≡ 0 → ((f : ℕ) (J : List Entry) → world m f J ≡ first_world main args f J) → At (run m.setting.program args) m [] (focus.Answer Normal)
+pub at_begin : (m : Point) (args : List (List ℕ)) (main : Method) (rest : Bor (List Stmt))
+    → IsMain m.setting.program main → has_short_arguments args ≡ true
+    → nat_le (cell_count (arguments_heap args)) most_cells ≡ true → m.frames ≡ frame.Normal (normal.Rest rest) ∷ []
+    → rest.now ≡ main.body → m.taken ≡ 0 → ((f : ℕ) (J : List Entry) → world m f J ≡ first_world main args f J)
+    → At (run m.setting.program args) m [] (focus.Answer Normal)
 at_begin m args main rest is short fits frames body none same = record {
   gives = λ f J.
       let p = m.setting.program in
@@ -66,24 +72,30 @@ fewer_same (Some n) = omega arith
 -- ---- what a run does to the counts of the sink
 
 -- no call was refused
-counts_stand : (before after : SinkState) (bytes : List ℕ) → Puts before after bytes {T = Unit {0}} (Ok tt) → (after.faults ≡ before.faults) × (after.wants ≡ before.wants)
+counts_stand : (before after : SinkState) (bytes : List ℕ) → Puts before after bytes {T = Unit {0}} (Ok tt)
+    → (after.faults ≡ before.faults) × (after.wants ≡ before.wants)
 counts_stand before after bytes puts = (Counts-ok _ _ _ tt puts.faults, Counts-ok _ _ _ tt puts.wants)
 
 -- the last call was refused
-counts_refuse : (error : PutError) (before after : SinkState) (bytes : List ℕ) → Puts before after bytes {T = Unit {0}} (Err error) → Refuses error before after
+counts_refuse : (error : PutError) (before after : SinkState) (bytes : List ℕ)
+    → Puts before after bytes {T = Unit {0}} (Err error) → Refuses error before after
 counts_refuse put.WriteFault before after bytes puts = (puts.faults.rose refl, puts.wants.stands (λ is. cc))
 counts_refuse put.OutOfMemory before after bytes puts = (puts.faults.stands (λ is. cc), puts.wants.rose refl)
 
 -- ---- ends
 
-module _ (m n : Point) (args : List (List ℕ)) (before after : SinkState) (store : StoreState) (at : At (run m.setting.program args) m [] (focus.Answer Normal)) (unmarked : m.marks ≡ []) (now_is : n.now ≡ store.now) (marks_are : n.marks ≡ store.marks) where
+module _ (m n : Point) (args : List (List ℕ)) (before after : SinkState) (store : StoreState)
+    (at : At (run m.setting.program args) m [] (focus.Answer Normal)) (unmarked : m.marks ≡ [])
+    (now_is : n.now ≡ store.now) (marks_are : n.marks ≡ store.marks) where
   abbrev R : Runs
   R = run m.setting.program args
 
   abbrev Ended : Bool → Option RunStop → Type 0
   Ended = EndsRun m.setting.program args m.setting.budget before after store n.taken
 
-  ends_by : (o : Outcome) (stop : RunStop) → Ends m (focus.Answer Normal) before n after o → (stop ≡ how.OutOfMemory) ⊎ (told stop ≡ Some (ending_of n.now o)) → EndsBy m.setting.program args m.setting.budget before after n.taken (told stop)
+  ends_by : (o : Outcome) (stop : RunStop) → Ends m (focus.Answer Normal) before n after o
+      → (stop ≡ how.OutOfMemory) ⊎ (told stop ≡ Some (ending_of n.now o))
+      → EndsBy m.setting.program args m.setting.budget before after n.taken (told stop)
   ends_by o stop d (inl is) =
       let put = d.put R [] [] at in
       rw is (record { part = put.0; rest = []; split = put.2 ∙ sym (append-nil put.0); written = put.3.ok })
@@ -97,7 +109,8 @@ module _ (m n : Point) (args : List (List ℕ)) (before after : SinkState) (stor
         same = put.2 ∙ sym put.1;
       })
 
-  ends_if : (o : Outcome) (stop : Option RunStop) → Ends m (focus.Answer Normal) before n after o → TellsEnd (ending_of n.now o) stop → EndsIf m.setting.program args m.setting.budget before after n.taken stop
+  ends_if : (o : Outcome) (stop : Option RunStop) → Ends m (focus.Answer Normal) before n after o
+      → TellsEnd (ending_of n.now o) stop → EndsIf m.setting.program args m.setting.budget before after n.taken stop
   ends_if o None d tells = rw (d.heap R [] [] at, d.outcome R [] [] at) tells
   ends_if o (Some stop) d tells = ends_by o stop d tells
 
@@ -106,7 +119,8 @@ module _ (m n : Point) (args : List (List ℕ)) (before after : SinkState) (stor
   no_fault end (Some stop) (inl oom) is = cc
   no_fault end (Some stop) (inr tells) is = cc
 
-  ended : (o : Outcome) (stop : Option RunStop) → Ends m (focus.Answer Normal) before n after o → TellsEnd (ending_of n.now o) stop → Ended false stop
+  ended : (o : Outcome) (stop : Option RunStop) → Ends m (focus.Answer Normal) before n after o
+      → TellsEnd (ending_of n.now o) stop → Ended false stop
   ended o stop d tells =
       let put = d.put R [] [] at in
       record {
@@ -123,7 +137,8 @@ module _ (m n : Point) (args : List (List ℕ)) (before after : SinkState) (stor
       }
 
   -- a part of what was to be put was written
-  cut_by : (error : PutError) → AppendsPrefix before after (R n.taken []).out → EndsIf m.setting.program args m.setting.budget before after n.taken (Some (refusal error))
+  cut_by : (error : PutError) → AppendsPrefix before after (R n.taken []).out
+      → EndsIf m.setting.program args m.setting.budget before after n.taken (Some (refusal error))
   cut_by put.WriteFault part = part
   cut_by put.OutOfMemory part = part
 
@@ -132,7 +147,8 @@ module _ (m n : Point) (args : List (List ℕ)) (before after : SinkState) (stor
   never_finishes put.OutOfMemory finishes = absurd finishes
 
   -- the machine stopped early
-  stopped_early : (end : EarlyEnd) → Stops m (focus.Answer Normal) before n after end → Ended (is_refused (Err end)) (Some (stopped end))
+  stopped_early : (end : EarlyEnd) → Stops m (focus.Answer Normal) before n after end
+      → Ended (is_refused (Err end)) (Some (stopped end))
   stopped_early early.OutOfMemory s =
       let put = s.put R [] [] at in
       record {
@@ -168,21 +184,28 @@ module _ (m n : Point) (args : List (List ℕ)) (before after : SinkState) (stor
         later = put.1.2.faults.later;
       }
 
-  pub ends_run : (end : Result Outcome EarlyEnd) (stop : Option RunStop) → Drives m (focus.Answer Normal) before n after end → Tells n.now end stop → Ended (is_refused end) stop
+  pub ends_run : (end : Result Outcome EarlyEnd) (stop : Option RunStop)
+      → Drives m (focus.Answer Normal) before n after end → Tells n.now end stop → Ended (is_refused end) stop
   ends_run (Ok o) stop d tells = ended o stop d tells
   ends_run (Err end) stop d tells = rw tells (stopped_early end d)
 
 -- ---- beginnings
 
 -- the body of main, from its first step
-pub run_ends : (m n : Point) (args : List (List ℕ)) (main : Method) (beginning : Beginning) (before after : SinkState) (store : StoreState) (end : Result Outcome EarlyEnd) (stop : Option RunStop) → IsMain m.setting.program main → IsBegun main args m.now beginning → m.frames ≡ beginning.frames → m.locals ≡ beginning.locals → m.this ≡ None → m.live ≡ 1 → m.taken ≡ 0 → m.marks ≡ [] → n.now ≡ store.now → n.marks ≡ store.marks → Drives m (focus.Answer Normal) before n after end → Tells n.now end stop → EndsRun m.setting.program args m.setting.budget before after store n.taken (is_refused end) stop
+pub run_ends : (m n : Point) (args : List (List ℕ)) (main : Method) (beginning : Beginning) (before after : SinkState)
+    (store : StoreState) (end : Result Outcome EarlyEnd) (stop : Option RunStop)
+    → IsMain m.setting.program main → IsBegun main args m.now beginning → m.frames ≡ beginning.frames
+    → m.locals ≡ beginning.locals → m.this ≡ None → m.live ≡ 1 → m.taken ≡ 0 → m.marks ≡ [] → n.now ≡ store.now
+    → n.marks ≡ store.marks → Drives m (focus.Answer Normal) before n after end → Tells n.now end stop
+    → EndsRun m.setting.program args m.setting.budget before after store n.taken (is_refused end) stop
 run_ends m n args main beginning before after store end stop is begun frames locals this live none unmarked now_is marks_are d tells =
     let body = begun.first.frames in
     let at = at_begin m args main body.0 is begun.short begun.fits (frames ∙ body.1) body.2 none (λ f J. rw (this, locals, begun.first.locals, begun.now_is, live) refl) in
     ends_run m n args before after store at unmarked now_is marks_are end stop d tells
 
 -- what a program without main does
-pub no_main : (p : Program) (args : List (List ℕ)) (budget : ℕ) (sink : SinkState) (store : StoreState) → slice_get p.methods p.main ≡ None → EndsRun p args budget sink sink store 0 false None
+pub no_main : (p : Program) (args : List (List ℕ)) (budget : ℕ) (sink : SinkState) (store : StoreState)
+    → slice_get p.methods p.main ≡ None → EndsRun p args budget sink sink store 0 false None
 no_main p args budget sink store none = record {
   ends = rw none refl;
   within = omega arith;
@@ -196,7 +219,8 @@ no_main p args budget sink store none = record {
   later = omega arith;
 }
 
-full_ends : (p : Program) (args : List (List ℕ)) (budget : ℕ) (sink : SinkState) (main : Method) (what : What) → IsMain p main → IsFullOf what args → EndsWhole p args budget (Ending.Full what) sink sink 0
+full_ends : (p : Program) (args : List (List ℕ)) (budget : ℕ) (sink : SinkState) (main : Method) (what : What)
+    → IsMain p main → IsFullOf what args → EndsWhole p args budget (Ending.Full what) sink sink 0
 full_ends p args budget sink main what is full =
     let e = runs budget in
     record {
@@ -211,7 +235,9 @@ full_ends p args budget sink main what is full =
     runs steps = ap (λ found. option_map_or (λ (main : Method). run_main p args (first_world main args steps [])) found (gives outcome.Stuck (record { this = None; locals = []; now = []; live = 0; fuel = steps; journal = [] }))) is ∙ full p (first_world main args steps []) refl
 
 -- what is refused before the first step
-pub refused : (p : Program) (args : List (List ℕ)) (budget : ℕ) (sink : SinkState) (store : StoreState) (main : Method) (stop : RunStop) → IsMain p main → IsRefused args stop → EndsRun p args budget sink sink store 0 false (Some stop)
+pub refused : (p : Program) (args : List (List ℕ)) (budget : ℕ) (sink : SinkState) (store : StoreState) (main : Method)
+    (stop : RunStop)
+    → IsMain p main → IsRefused args stop → EndsRun p args budget sink sink store 0 false (Some stop)
 refused p args budget sink store main stop is (inl oom) = rw oom (record {
   ends = record { part = []; rest = (run p args 0 []).out; split = refl; written = with_none sink.written };
   within = omega arith;

@@ -151,7 +151,8 @@ abbrev pub Refuses : PutError → SinkState → SinkState → Type 0
 Refuses put.WriteFault before now = Rose before.faults now.faults × (now.wants ≡ before.wants)
 Refuses put.OutOfMemory before now = (now.faults ≡ before.faults) × Rose before.wants now.wants
 
--- a whole run of the machine: how it ended, what it left of the store, the steps that it took, and what it did to the sink
+-- a whole run of the machine: how it ended, what it left of the store, the steps that it took, and what it did to the
+-- sink
 pub record EndsRun (p : Program) (args : List (List ℕ)) (budget : ℕ) (before after : SinkState)
     (store : StoreState) (taken : ℕ) (refused : Bool) (stop : Option RunStop) : Type 0 where
   pub ends : EndsIf p args budget before after taken stop

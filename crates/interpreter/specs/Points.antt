@@ -44,14 +44,15 @@ abbrev pub depth_of : Focus → ℕ → ℕ
 depth_of (focus.Loop l) f = suc f
 depth_of _ f = f
 
--- with these bytes printed, f steps left and these answers to come, a whole run gives what the frames make of the part at
--- the focus
+-- with these bytes printed, f steps left and these answers to come, a whole run gives what the frames make of the part
+-- at the focus
 pub record Gives (m : Point) (printed : List ℕ) (x : Focus) (f : ℕ) (J : List Entry) (whole : Answer) : Type 0 where
   pub make : Answer → Answer
   pub depth : ℕ
   pub frames : Stands m.setting.program (room x f) m.frames make
   pub deep : depth_of x f ≤ depth
-  pub same : whole ≡ after printed [] (make (focused m.setting.program (meaning m.setting.program depth) x (world m f J)))
+  pub same :
+      let p = m.setting.program in whole ≡ after printed [] (make (focused p (meaning p depth) x (world m f J)))
 
 -- the runs of a program: what it gives, by the number of its steps and the answers to come
 abbrev pub Runs : Type 0
@@ -73,8 +74,8 @@ pub record Leads (m : Point) (x : Focus) (before : SinkState) (n : Point) (y : F
   pub marks : n.marks ≡ m.marks
   pub within : n.taken ≤ n.setting.budget
 
--- each run that comes by this point, with the budget as its steps, ends with this outcome and in the heap of now, it has
--- that many steps and all answers left, and its output, which is that of a run with just the steps taken, was put
+-- each run that comes by this point, with the budget as its steps, ends with this outcome and in the heap of now, it
+-- has the steps that weren't taken and all answers left, and its output, which is that of a run with just the steps taken, was put
 pub record Ends (m : Point) (x : Focus) (before : SinkState) (n : Point) (now : SinkState) (o : Outcome) : Type 0 where
   pub within : n.taken ≤ m.setting.budget
   pub setting : n.setting ≡ m.setting
@@ -98,7 +99,8 @@ sink_answer (early.Refused error) = Err error
 
 -- the machine stopped early: what was put, or a prefix of it where the sink refused, begins what the run with just the
 -- steps taken prints
-pub record Stops (m : Point) (x : Focus) (before : SinkState) (n : Point) (now : SinkState) (end : EarlyEnd) : Type 0 where
+pub record Stops (m : Point) (x : Focus) (before : SinkState) (n : Point) (now : SinkState) (end : EarlyEnd)
+    : Type 0 where
   pub within : n.taken ≤ m.setting.budget
   pub put : (R : Runs) (printed : List ℕ) (J : List Entry) → At R m printed x →
       (more : List ℕ)

@@ -24,7 +24,8 @@ impl<'p, S: Store + Drop> Running<'p, S> {
         last: &'p Option<Boxed<Stmt>>,
     ) -> Result<Focus<'p>, OutOfMemory>
         ensures ok { IfOk result (Goes S.state
-            (λ p part w. finally_if p part last.entry.now (catching p part catches.entry.now (part.stmt body.entry.now w)))
+            (λ p part w. finally_if p part last.entry.now
+            (catching p part catches.entry.now (part.stmt body.entry.now w)))
             self.old self.new) }
         ensures light { IfOk result (Leaves S.state 0 self.old self.new) }
         ensures err { OnErr result (FailsIn S.state self.old self.new) }

@@ -192,8 +192,8 @@ pub enum Focus<'p> {
     Stmt(&'p Stmt),
     /// Before a further turn of a loop.
     Loop(LoopParts<'p>),
-    /// Before the run of the constructor with this number, for the object at this position, with these arguments. That many
-    /// superclasses may come, itself among them.
+    /// Before the run of the constructor with this number, for the object at this position, with these arguments. That
+    /// many superclasses may come, itself among them.
     Construct(u32, u32, Items<Cell<u32>>, usize),
     /// Before these bytes are printed.
     Print(Vec<u8>),

@@ -14,8 +14,8 @@ use std::alloc::Global;
 use std::marker::Model;
 use type_safety::never_stuck;
 
-/// The machine over a store: it runs a program once, with explicit frames and no recursion. Contracts see its store, the
-/// steps that the run took, and whether a call of the sink was refused.
+/// The machine over a store: it runs a program once, with explicit frames and no recursion. Contracts see its store,
+/// the steps that the run took, and whether a call of the sink was refused.
 #[derive(Drop)]
 pub struct Machine<S> {
     alloc: Global,
@@ -48,14 +48,15 @@ impl<S: Store + Drop> Machine<S> {
         }
     }
 
-    /// Runs a well-typed program with these arguments and a budget of steps. What it prints goes into the sink, a put for
-    /// each print, and nothing is flushed. The store has no object, no mark, and the field types of the program. An
-    /// argument of more than 1,048,576 code units is `Full(Text)` before the first step.
+    /// Runs a well-typed program with these arguments and a budget of steps. What it prints goes into the sink, a put
+    /// for each print, and nothing is flushed. The store has no object, no mark, and the field types of the program.
+    /// An argument of more than 1,048,576 code units is `Full(Text)` before the first step.
     ///
-    /// Every stop but the last two is that of the reference evaluation with this budget, and its output is whole; after
-    /// `Done` and `Uncaught` the store holds the heap that it left, and no mark stands. `OutOfMemory`, which may come at any
-    /// point, and `WriteFault` leave a prefix of what a run with the steps taken prints. Where the sink refused a call, it
-    /// was the last one, and the stop tells its error: `WriteFault` always, and `OutOfMemory` where `sink_refused` says so.
+    /// Every stop but the last two is that of the reference evaluation with this budget, and its output is whole;
+    /// after `Done` and `Uncaught` the store holds the heap that it left, and no mark stands. `OutOfMemory`, which may
+    /// come at any point, and `WriteFault` leave a prefix of what a run with the steps taken prints. Where the sink
+    /// refused a call, it was the last one, and the stop tells its error: `WriteFault` always, and `OutOfMemory` where
+    /// `sink_refused` says so.
     pub fn run<O: Sink>(
         &mut self,
         program: &Program,

@@ -12,8 +12,8 @@ use heap_arena::{Cell, Stack, Store};
 use sqlite_items::{Boxed, Items};
 use std::alloc::Global;
 
-/// A run in progress: the program, the frames, the body that is being run, the store, the steps taken and how many may be
-/// taken. References are positions of the store.
+/// A run in progress: the program, the frames, the body that is being run, the store, the steps taken and how many may
+/// be taken. References are positions of the store.
 #[derive(Drop)]
 pub struct Running<'p, S> {
     pub program: &'p Program,

@@ -1,5 +1,5 @@
 -- Internal: the initialisers of the fields that a class declares.
-use Rattle.std.specs.Prelude.{◌==◌, ℕ, suc, List, [], ◌∷◌, drop, Option, Some, None}
+use Rattle.std.specs.Prelude.{◌==◌, ℕ, suc, List, [], ◌∷◌, drop, Option, Some, None, if◌then◌else◌}
 use Rattle.core_tree.specs.declared.expr.Expr.{Expr}
 use Rattle.core_tree.specs.declared.stmt.Stmt.{Stmt}
 use Rattle.core_tree.specs.declared.program.Field.{Field}

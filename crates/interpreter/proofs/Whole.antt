@@ -3,8 +3,9 @@ use Rattle.std.proofs.Common.{Bor, ◌≡◌, ◌⊎◌, ℕ, ◌+◌, Bool, tru
 use Rattle.std.specs.Option.{option_map_or}
 use Rattle.pb_io.specs.declared.sink.PutError.{PutError}
 use Rattle.pb_io.specs.declared.sink.PutError.TheVariants as put
-use Rattle.pb_io.specs.Sink.{SinkState, with_bytes, AppendsPrefix, NoFewer, Puts}
+use Rattle.pb_io.specs.Sink.{SinkState, with_bytes, AppendsPrefix, Puts}
 use Rattle.pb_io.proofs.Counts.{Counts-ok}
+use Rattle.pb_io.proofs.Puts.{with_bytes-nil, NoFewer-refl}
 use Rattle.core_tree.specs.declared.what.What.{What}
 use Rattle.core_tree.specs.declared.stmt.Stmt.{Stmt}
 use Rattle.core_tree.specs.declared.program.Method.{Method}
@@ -30,7 +31,7 @@ use Rattle.interpreter.specs.declared.stop.RunStop.TheVariants as how
 use Rattle.interpreter.specs.Frames.{resumed}
 use Rattle.interpreter.specs.Setting.{Point, world}
 use Rattle.interpreter.specs.Points.{At, Ends, Stops, Drives, Runs}
-use Rattle.interpreter.specs.Machine.{is_refused, refusal, stopped, told, Refuses, Tells, TellsEnd, EndsBy, EndsIf, EndsRun, EndsWhole, Finishes, IsBegun, IsFullOf, IsMain, IsRefused}
+use Rattle.interpreter.specs.Machine.{is_refused, refusal, stopped, told, Refuses, Tells, TellsEnd, EndsBy, EndsIf, EndsRun, EndsWhole, Finishes, FinishesIf, IsBegun, IsFullOf, IsMain, IsRefused}
 
 -- the run of a program whose arguments fit is that of main's body
 run_is : (p : Program) (args : List (List ℕ)) (main : Method) (steps : ℕ) (J : List Entry) → IsMain p main
@@ -58,16 +59,6 @@ at_begin m args main rest is short fits frames body none same = record {
   where
     steps : (f : ℕ) → m.taken + f ≡ f
     steps f = omega (arith, none)
-
--- ---- sinks that no call reached
-
-with_none : (written : Option (List ℕ)) → written ≡ with_bytes written []
-with_none None = refl
-with_none (Some bytes) = ap Some (sym (append-nil bytes))
-
-fewer_same : (flushed : Option ℕ) → NoFewer flushed flushed
-fewer_same None = tt
-fewer_same (Some n) = omega arith
 
 -- ---- what a run does to the counts of the sink
 
@@ -203,21 +194,29 @@ run_ends m n args main beginning before after store end stop is begun frames loc
     let at = at_begin m args main body.0 is begun.short begun.fits (frames ∙ body.1) body.2 none (λ f J. rw (this, locals, begun.first.locals, begun.now_is, live) refl) in
     ends_run m n args before after store at unmarked now_is marks_are end stop d tells
 
--- what a program without main does
-pub no_main : (p : Program) (args : List (List ℕ)) (budget : ℕ) (sink : SinkState) (store : StoreState)
-    → slice_get p.methods p.main ≡ None → EndsRun p args budget sink sink store 0 false None
-no_main p args budget sink store none = record {
-  ends = rw none refl;
+-- a run that takes no step and reaches no sink
+untouched : (p : Program) (args : List (List ℕ)) (budget : ℕ) (sink : SinkState) (store : StoreState)
+    (stop : Option RunStop)
+    → EndsIf p args budget sink sink 0 stop → (FinishesIf stop → ⊥) → (stop ≡ Some how.WriteFault → ⊥)
+    → EndsRun p args budget sink sink store 0 false stop
+untouched p args budget sink store stop ends never other = record {
+  ends = ends;
   within = omega arith;
-  heap = λ finishes. absurd finishes;
-  marks_are = λ finishes. absurd finishes;
-  flushed = fewer_same sink.flushed;
+  heap = λ finishes. absurd (never finishes);
+  marks_are = λ finishes. absurd (never finishes);
+  flushed = NoFewer-refl sink.flushed;
   flushes = refl;
   stands = λ _. (refl, refl);
   refusal_is = λ is. cc;
-  cause = λ is. cc;
+  cause = λ is. absurd (other is);
   later = omega arith;
 }
+
+-- what a program without main does
+pub no_main : (p : Program) (args : List (List ℕ)) (budget : ℕ) (sink : SinkState) (store : StoreState)
+    → slice_get p.methods p.main ≡ None → EndsRun p args budget sink sink store 0 false None
+no_main p args budget sink store none =
+    untouched p args budget sink store None (rw none refl) (λ finishes. finishes) (λ is. cc)
 
 full_ends : (p : Program) (args : List (List ℕ)) (budget : ℕ) (sink : SinkState) (main : Method) (what : What)
     → IsMain p main → IsFullOf what args → EndsWhole p args budget (Ending.Full what) sink sink 0
@@ -226,7 +225,7 @@ full_ends p args budget sink main what is full =
     record {
       ending_is = rw e refl;
       journal = rw e refl;
-      written = rw e (with_none sink.written);
+      written = rw e (sym (with_bytes-nil sink.written));
       fuel = rw e (omega arith);
       same = rw (e, runs 0) refl;
     }
@@ -238,30 +237,13 @@ full_ends p args budget sink main what is full =
 pub refused : (p : Program) (args : List (List ℕ)) (budget : ℕ) (sink : SinkState) (store : StoreState) (main : Method)
     (stop : RunStop)
     → IsMain p main → IsRefused args stop → EndsRun p args budget sink sink store 0 false (Some stop)
-refused p args budget sink store main stop is (inl oom) = rw oom (record {
-  ends = record { part = []; rest = (run p args 0 []).out; split = refl; written = with_none sink.written };
-  within = omega arith;
-  heap = λ finishes. absurd finishes;
-  marks_are = λ finishes. absurd finishes;
-  flushed = fewer_same sink.flushed;
-  flushes = refl;
-  stands = λ _. (refl, refl);
-  refusal_is = λ is. cc;
-  cause = λ is. cc;
-  later = omega arith;
-})
-refused p args budget sink store main stop is (inr full) = rw full.1 (record {
-  ends = full_ends p args budget sink main full.0 is full.2;
-  within = omega arith;
-  heap = λ finishes. absurd finishes;
-  marks_are = λ finishes. absurd finishes;
-  flushed = fewer_same sink.flushed;
-  flushes = refl;
-  stands = λ _. (refl, refl);
-  refusal_is = λ is. cc;
-  cause = λ is. cc;
-  later = omega arith;
-})
+refused p args budget sink store main stop is (inl oom) =
+    let part : AppendsPrefix sink sink (run p args 0 []).out =
+    record { part = []; rest = (run p args 0 []).out; split = refl; written = sym (with_bytes-nil sink.written) } in
+    rw oom (untouched p args budget sink store (Some how.OutOfMemory) part (λ finishes. finishes) (λ is. cc))
+refused p args budget sink store main stop is (inr full) =
+    let ends = full_ends p args budget sink main full.0 is full.2 in
+    rw full.1 (untouched p args budget sink store (Some (how.Full full.0)) ends (λ finishes. finishes) (λ is. cc))
 
 pub absurd_option : {S : Type 0} (o : Option S) (Q : S → Type 0) → MatchOption o ⊥ Q → ((s : S) → Q s → ⊥) → ⊥
 absurd_option None Q holds never = holds

@@ -1,6 +1,6 @@
 //! The machine as callers see it.
 
-ghost use Rattle.std.specs.Prelude.{◌≡◌, MatchOption, Some, map};
+ghost use Rattle.std.specs.Prelude.{◌≡◌, MatchOption, Some, false, map};
 ghost use Rattle.core_tree.specs.WellTyped.{IsWellTyped};
 ghost use Rattle.heap_arena.specs.State.{new_state};
 ghost use Rattle.interpreter.specs.Machine.{text_of, EndsRun};
@@ -39,6 +39,7 @@ impl<S: Store + Drop> Machine<S> {
     pub fn new(alloc: Global, store: S) -> Machine<S>
         ensures store { result.store ≡ Some store }
         ensures steps { result.steps_taken ≡ 0 }
+        ensures refused { result.sink_refused ≡ false }
     {
         Machine {
             alloc,

@@ -47,8 +47,8 @@ a_negative_budget = refl
 a_budget_twice : command (codes "planb" ∷ codes "--steps" ∷ codes "5" ∷ codes "--steps" ∷ codes "5" ∷ codes "F" ∷ []) ≡ None
 a_budget_twice = refl
 
-a_budget_behind_the_file : command (codes "planb" ∷ codes "F" ∷ codes "--steps" ∷ codes "5" ∷ []) ≡ None
-a_budget_behind_the_file = refl
+a_budget_after_the_file : command (codes "planb" ∷ codes "F" ∷ codes "--steps" ∷ codes "5" ∷ []) ≡ None
+a_budget_after_the_file = refl
 
 an_argument_with_a_dash : command (codes "planb" ∷ codes "F" ∷ codes "a" ∷ codes "-1" ∷ []) ≡ None
 an_argument_with_a_dash = refl

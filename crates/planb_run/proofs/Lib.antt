@@ -6,5 +6,6 @@ pub mod Sources
 pub mod Loading
 pub mod Executing
 pub mod Obeying
+pub mod Telling
 mod CommandRows
 mod ReportRows

@@ -19,7 +19,7 @@ joined-take parts i d lt =
     ∙ flat_map-append (λ (p : Bor (List ℕ)). p.now) (take i parts) (part ∷ [])
     ∙ ap (λ bytes. joined (take i parts) ++ bytes) (append-nil part.now)
 
--- the parts up to one, and those behind it
+-- the parts up to one, and those after it
 joined-split : (parts : List (Bor (List ℕ))) (i : ℕ) → joined parts ≡ joined (take i parts) ++ joined (drop i parts)
 joined-split parts i = ap joined (sym (take-append-drop i parts)) ∙ flat_map-append (λ (p : Bor (List ℕ)). p.now) (take i parts) (drop i parts)
 

@@ -50,7 +50,7 @@ escape c =
 abbrev pub escaped : List ℕ → List ℕ
 escaped message = flat_map escape message
 
--- what stands behind the name of the class: the message, where there is one, and the end of the line
+-- what follows the name of the class: the message, where there is one, and the end of the line
 abbrev pub message_text : Option (List ℕ) → List ℕ
 message_text None = codes "\n"
 message_text (Some message) = codes ": " ++ (encode_utf8_all (escaped message) ++ codes "\n")

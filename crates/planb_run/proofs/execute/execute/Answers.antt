@@ -8,6 +8,6 @@ returns g c =
     rw c.steps_taken-steps.ensures
     (with_store c.run.new.self.store _ _ c.run.ensures (λ store ends.
     and_flushed c.args.program.now (map text_of c.args.arguments.now) c.args.budget (g.O.Sink.state c.args.out.now)
-    (g.O.Sink.state c.run.new.sink) _ _ c.run.new.self.steps_taken
-    (c.spent_runs_leave_none.ensures c.args.program.now (map text_of c.args.arguments.now) c.args.budget []) (g.O.Sink.state c.flushed.new.out) c.flushed.result c.run.result
+    (g.O.Sink.state c.run.new.sink) _ c.run.new.self.steps_taken _
+    (c.spent_runs_leave_none.ensures c.args.program.now (map text_of c.args.arguments.now) c.args.budget []) c.if-self.false (g.O.Sink.state c.flushed.new.out) c.flushed.result c.run.result
     ends (rw c.stop_of-stop.ensures at c.flushed.ensures)))

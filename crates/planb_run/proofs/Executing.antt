@@ -22,7 +22,8 @@ with_store None Q R holds gives = absurd holds
 with_store (Some s) Q R holds gives = gives s holds
 
 -- what was refused after a moment when nothing had been
-refuses_later : (before mid now : SinkState) (ended : Stop) → mid.faults ≡ before.faults → mid.wants ≡ before.wants → RefusesLast mid now ended → RefusesLast before now ended
+refuses_later : (before mid now : SinkState) (ended : Stop) → mid.faults ≡ before.faults → mid.wants ≡ before.wants
+    → RefusesLast mid now ended → RefusesLast before now ended
 refuses_later before mid now stop.OutOfMemory faults wants refuses = rw (← faults, ← wants) refuses
 refuses_later before mid now stop.WriteFault faults wants refuses = rw (← faults, ← wants) refuses
 refuses_later before mid now stop.Done faults wants refuses = refuses
@@ -34,7 +35,8 @@ refuses_later before mid now (stop.Full what) faults wants refuses = refuses
 refuses_later before mid now stop.ReadFault faults wants refuses = refuses
 
 -- a run that stops with its steps spent names its budget
-spent_stop : (budget n : ℕ) (end : Ending) → stop_of end budget ≡ Some (stop.StepsSpent n) → (end ≡ Ending.StepsSpent) × (budget ≡ n)
+spent_stop : (budget n : ℕ) (end : Ending) → stop_of end budget ≡ Some (stop.StepsSpent n)
+    → (end ≡ Ending.StepsSpent) × (budget ≡ n)
 spent_stop budget n Ending.Done is = cc
 spent_stop budget n (Ending.Uncaught number message) is = cc
 spent_stop budget n Ending.StepsSpent is = (refl, cc)
@@ -47,7 +49,8 @@ module _ (p : Program) (arguments : List (List ℕ)) (budget : ℕ) where
   LeavesNone = ending (run p arguments budget []) ≡ Ending.StepsSpent → (run p arguments budget []).world.fuel ≡ 0
 
   -- a run that stops so takes all of its steps
-  all_taken : LeavesNone → (taken n : ℕ) (ended : Stop) → (run p arguments budget []).world.fuel + taken ≡ budget → stop_of (ending (run p arguments budget [])) budget ≡ Some ended → ended ≡ stop.StepsSpent n → taken ≡ n
+  all_taken : LeavesNone → (taken n : ℕ) (ended : Stop) → (run p arguments budget []).world.fuel + taken ≡ budget
+      → stop_of (ending (run p arguments budget [])) budget ≡ Some ended → ended ≡ stop.StepsSpent n → taken ≡ n
   all_taken leaves taken n ended fuel is spent =
       let named = spent_stop budget n (ending (run p arguments budget [])) (is ∙ ap Some spent) in
       let none = leaves named.0 in
@@ -92,17 +95,20 @@ module _ (p : Program) (arguments : List (List ℕ)) (budget : ℕ) where
           }
 
       -- the flush was refused
-      flush_refused : (ended : RunStop) → Ended ended → now.flushes ≡ raised mid.flushes → RefusesLast mid now flushed → LeavesOutput before now flushed
+      flush_refused : (ended : RunStop) → Ended ended → now.flushes ≡ raised mid.flushes → RefusesLast mid now flushed
+          → LeavesOutput before now flushed
       flush_refused ended ends flushes refuses =
           let stands = ends.stands unrefused in
           inl (refuses_later before mid now flushed stands.0 stands.1 refuses, inr (flushes ∙ ap raised ends.flushes))
 
       -- the run came to its end
-      whole_flushed : (end : Ending) (ended : RunStop) → stop_of end budget ≡ Some (run_stop ended budget) → Ended ended → EndsWhole p arguments budget end before mid taken
+      whole_flushed : (end : Ending) (ended : RunStop) → stop_of end budget ≡ Some (run_stop ended budget)
+          → Ended ended → EndsWhole p arguments budget end before mid taken
           → Flushes mid now (run_stop ended budget) flushed → Executes p arguments budget before now flushed taken
       whole_flushed end ended is ends whole flush = by_outcome flush.stop_is
         where
-          by_outcome : ((flushed ≡ run_stop ended budget) × FlushesOnce mid now) ⊎ RefusesLast mid now flushed → Executes p arguments budget before now flushed taken
+          by_outcome : ((flushed ≡ run_stop ended budget) × FlushesOnce mid now) ⊎ RefusesLast mid now flushed
+              → Executes p arguments budget before now flushed taken
           by_outcome (inl (same, once)) =
               let stop_is : stop_of (ending (run p arguments budget [])) budget ≡ Some flushed = ap (λ e. stop_of e budget) whole.ending_is ∙ is ∙ ap Some (sym same) in
               inl (record {
@@ -124,7 +130,8 @@ module _ (p : Program) (arguments : List (List ℕ)) (budget : ℕ) where
           }))
 
       -- memory ran out before the flush
-      part_flushed : Ended how.OutOfMemory → Flushes mid now stop.OutOfMemory flushed → Executes p arguments budget before now flushed taken
+      part_flushed : Ended how.OutOfMemory → Flushes mid now stop.OutOfMemory flushed
+          → Executes p arguments budget before now flushed taken
       part_flushed ends flush = inr (inl (record {
         within = ends.within;
         part = record { part = part.part; rest = part.rest; split = part.split; written = flush.written ∙ part.written };
@@ -134,11 +141,13 @@ module _ (p : Program) (arguments : List (List ℕ)) (budget : ℕ) where
           part : AppendsPrefix before mid (run p arguments taken []).out
           part = ends.ends
 
-          by_outcome : ((flushed ≡ stop.OutOfMemory) × FlushesOnce mid now) ⊎ RefusesLast mid now flushed → LeavesOutput before now flushed
+          by_outcome : ((flushed ≡ stop.OutOfMemory) × FlushesOnce mid now) ⊎ RefusesLast mid now flushed
+              → LeavesOutput before now flushed
           by_outcome (inl (same, once)) = inr (same, once_flushed how.OutOfMemory ends once)
           by_outcome (inr refuses) = flush_refused how.OutOfMemory ends flush.flushes refuses
 
-      pub and_flushed : (ended : RunStop) → Ended ended → Flushes mid now (run_stop ended budget) flushed → Executes p arguments budget before now flushed taken
+      pub and_flushed : (ended : RunStop) → Ended ended → Flushes mid now (run_stop ended budget) flushed
+          → Executes p arguments budget before now flushed taken
       and_flushed how.Done ends flush = whole_flushed Ending.Done how.Done refl ends ends.ends flush
       and_flushed (how.Uncaught number message) ends flush =
           whole_flushed (Ending.Uncaught number message) (how.Uncaught number message) refl ends ends.ends flush

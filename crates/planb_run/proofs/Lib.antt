@@ -6,6 +6,5 @@ pub mod Sources
 pub mod Loading
 pub mod Executing
 pub mod Obeying
-pub mod Telling
 mod CommandRows
 mod ReportRows

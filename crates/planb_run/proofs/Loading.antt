@@ -15,7 +15,8 @@ use Rattle.planb_run.specs.Stages.{RefusesFile}
 use Rattle.planb_run.proofs.Sources.{some_longer}
 
 -- a source that is too long, and is the file's where that is told
-long_source : (told : Option (List ℕ)) → IfSome told (λ bytes. most_bytes < length bytes) → (source : List ℕ) × IfSome told (λ bytes. source ≡ bytes) × (most_bytes < length source)
+long_source : (told : Option (List ℕ)) → IfSome told (λ bytes. most_bytes < length bytes)
+    → (source : List ℕ) × IfSome told (λ bytes. source ≡ bytes) × (most_bytes < length source)
 long_source None long = let longer = some_longer most_bytes in (longer.0, tt, longer.1)
 long_source (Some bytes) long = (bytes, refl, long)
 
@@ -32,7 +33,8 @@ module _ (before : FilesState) (file : List ℕ) where
   unread read.OutOfMemory there long = tt
 
   -- the error of the stages from bytes to a program
-  pub unresolved : (bytes : List ℕ) (error : SourceError) → before.lacks file ≡ false → IfSome (before.bytes_of file) (λ b. bytes ≡ b)
+  pub unresolved : (bytes : List ℕ) (error : SourceError) → before.lacks file ≡ false
+      → IfSome (before.bytes_of file) (λ b. bytes ≡ b)
       → IsRefused bytes error → RefusesFile before file (source_stop error)
   unresolved bytes (source.Refused why) there told refused = record { there = there; source = bytes; told = told; refused = refused }
   unresolved bytes source.OutOfMemory there told refused = tt
@@ -40,7 +42,9 @@ module _ (before : FilesState) (file : List ℕ) where
 -- ---- the count of faults
 
 -- the error of the reading counts as the stop that it leads to
-pub counts_unread : {T U : Type 0} (before now : ℕ) (error : ReadError) → Counts {T = T} read.ReadFault before now (Err error) → Counts {T = U} stop.ReadFault before now (Err (read_stop error))
+pub counts_unread : {T U : Type 0} (before now : ℕ) (error : ReadError)
+    → Counts {T = T} read.ReadFault before now (Err error)
+    → Counts {T = U} stop.ReadFault before now (Err (read_stop error))
 counts_unread before now read.ReadFault counts =
     record { later = counts.later; rose = λ _. counts.rose refl; stands = λ no. absurd (no refl) }
 counts_unread before now read.TooLong counts =
@@ -49,12 +53,15 @@ counts_unread before now read.OutOfMemory counts =
     record { later = counts.later; rose = λ is. cc; stands = λ _. counts.stands (λ is. cc) }
 
 -- after a reading that didn't fail, no stage leads to a read fault
-pub counts_unresolved : {T U : Type 0} (before now : ℕ) (value : T) (error : SourceError) → Counts {T = T} read.ReadFault before now (Ok value) → Counts {T = U} stop.ReadFault before now (Err (source_stop error))
+pub counts_unresolved : {T U : Type 0} (before now : ℕ) (value : T) (error : SourceError)
+    → Counts {T = T} read.ReadFault before now (Ok value)
+    → Counts {T = U} stop.ReadFault before now (Err (source_stop error))
 counts_unresolved before now value (source.Refused why) counts =
     record { later = counts.later; rose = λ is. cc; stands = λ _. counts.stands (λ is. cc) }
 counts_unresolved before now value source.OutOfMemory counts =
     record { later = counts.later; rose = λ is. cc; stands = λ _. counts.stands (λ is. cc) }
 
-pub counts_resolved : {T U : Type 0} (before now : ℕ) (value : T) (program : U) → Counts {T = T} read.ReadFault before now (Ok value) → Counts {T = U} stop.ReadFault before now (Ok program)
+pub counts_resolved : {T U : Type 0} (before now : ℕ) (value : T) (program : U)
+    → Counts {T = T} read.ReadFault before now (Ok value) → Counts {T = U} stop.ReadFault before now (Ok program)
 counts_resolved before now value program counts =
     record { later = counts.later; rose = λ is. cc; stands = λ _. counts.stands (λ is. cc) }

@@ -21,15 +21,14 @@ use Rattle.planb_run.proofs.Sources.{accepted_faultless, refused_lexical, refuse
 
 -- ---- what the words ask for, and what the files tell, is one
 
-same_command : (words : List (List ℕ)) (asked other : Command) → command words ≡ Some asked → command words ≡ Some other → asked ≡ other
+same_command : (words : List (List ℕ)) (asked other : Command) → command words ≡ Some asked
+    → command words ≡ Some other → asked ≡ other
 same_command words asked other is other_is = let e = sym is ∙ other_is in cc
 
-told_is : (told : Option (List ℕ)) (source bytes : List ℕ) → IfSome told (λ b. source ≡ b) → told ≡ Some bytes → source ≡ bytes
+told_is : (told : Option (List ℕ)) (source bytes : List ℕ) → IfSome told (λ b. source ≡ b) → told ≡ Some bytes
+    → source ≡ bytes
 told_is None source bytes is some = cc
 told_is (Some b) source bytes is some = let same : b ≡ bytes = cc in is ∙ same
-
-err_same : {T E : Type 0} (a b : E) → Err {T = T} a ≡ Err b → a ≡ b
-err_same a b is = cc
 
 -- ---- stops
 
@@ -91,7 +90,8 @@ early_refuses_not stop.WriteFault early refusal = refusal
 
 -- ---- the words are no command
 
-pub obeys-usage : (words : List (List ℕ)) (outside : Outside) → command words ≡ None → Obeys words outside outside None stop.Usage 0
+pub obeys-usage : (words : List (List ℕ)) (outside : Outside) → command words ≡ None
+    → Obeys words outside outside None stop.Usage 0
 obeys-usage words outside none =
     let nothing : PrintsNothing words outside outside stop.Usage 0 = record { out = refl; no_step = refl } in
     record {
@@ -129,7 +129,9 @@ module _ (before : FilesState) (file : List ℕ) where
   refused-runs_not stop.WriteFault refused run_stop = run_stop
 
   -- where no program is there, it was refused for something, or the end was early
-  refused_or_early : (P : Stop → Type 0) → ((why : SourceRefusal) → IsRefusedFor before file why → P (stop.Refused why)) → (ended : Stop) → RefusesFile before file ended → P ended ⊎ IsEarly ended
+  refused_or_early : (P : Stop → Type 0)
+      → ((why : SourceRefusal) → IsRefusedFor before file why → P (stop.Refused why)) → (ended : Stop)
+      → RefusesFile before file ended → P ended ⊎ IsEarly ended
   refused_or_early P found stop.Done refused = absurd refused
   refused_or_early P found (stop.Uncaught number message) refused = absurd refused
   refused_or_early P found (stop.StepsSpent budget) refused = absurd refused
@@ -149,21 +151,26 @@ module _ (before : FilesState) (file : List ℕ) where
       only_early {P = ⊥} ended (refused_or_early (λ _. ⊥) (λ why is. let there = is.there in cc) ended refused) (λ no. no)
 
   -- what refuses the bytes that are told
-  refuses : (source : List ℕ) (why : SourceRefusal) → before.bytes_of file ≡ Some source → IsRefusedFor before file why → RefusesFor source why
+  refuses : (source : List ℕ) (why : SourceRefusal) → before.bytes_of file ≡ Some source
+      → IsRefusedFor before file why → RefusesFor source why
   refuses source why told is = subst (λ s. RefusesFor s why) (told_is (before.bytes_of file) is.source source is.told told) is.refused
 
-  long-refused : (ended : Stop) (source : List ℕ) → RefusesFile before file ended → before.bytes_of file ≡ Some source → most_bytes < length source → (ended ≡ stop.Refused TooLong) ⊎ IsEarly ended
+  long-refused : (ended : Stop) (source : List ℕ) → RefusesFile before file ended → before.bytes_of file ≡ Some source
+      → most_bytes < length source → (ended ≡ stop.Refused TooLong) ⊎ IsEarly ended
   long-refused ended source refused told long =
       refused_or_early (λ s. s ≡ stop.Refused TooLong) (λ why is. ap stop.Refused (refused_long source why (refuses source why told is) long)) ended refused
 
-  lexical-refused : (ended : Stop) (source : List ℕ) (kind : TokenKindError) (at : ℕ) → RefusesFile before file ended → before.bytes_of file ≡ Some source → length source ≤ most_bytes → HasFault source (lexical_error kind at) → (ended ≡ stop.Refused (Lexical kind at)) ⊎ IsEarly ended
+  lexical-refused : (ended : Stop) (source : List ℕ) (kind : TokenKindError) (at : ℕ) → RefusesFile before file ended
+      → before.bytes_of file ≡ Some source → length source ≤ most_bytes → HasFault source (lexical_error kind at)
+      → (ended ≡ stop.Refused (Lexical kind at)) ⊎ IsEarly ended
   lexical-refused ended source kind at refused told few fault =
       refused_or_early (λ s. s ≡ stop.Refused (Lexical kind at)) (λ why is. ap stop.Refused (refused_lexical source why kind at (refuses source why told is) few fault)) ended refused
 
   unaccepted-refused : (ended : Stop) → RefusesFile before file ended → IsRefusal ended ⊎ IsEarly ended
   unaccepted-refused ended refused = refused_or_early IsRefusal (λ why is. tt) ended refused
 
-  accepted-early : (ended : Stop) (source : List ℕ) (program : Program) → RefusesFile before file ended → before.bytes_of file ≡ Some source → Accepted source program → IsEarly ended
+  accepted-early : (ended : Stop) (source : List ℕ) (program : Program) → RefusesFile before file ended
+      → before.bytes_of file ≡ Some source → Accepted source program → IsEarly ended
   accepted-early ended source program refused told accepted =
       only_early {P = ⊥} ended (refused_or_early (λ _. ⊥) (λ why is. refused_unaccepted source why program (refuses source why told is) accepted) ended refused) (λ no. no)
 
@@ -174,15 +181,18 @@ module _ (program : Program) (arguments : List (List ℕ)) (budget : ℕ) (befor
   Executed ended = Executes program arguments budget before now ended steps
 
   -- a run that didn't come to its end was ended early
-  cut_is_early : (ended : Stop) → IsPartOfRun program arguments budget before now ended steps ⊎ IsUnbegun before now ended steps → IsEarly ended
+  cut_is_early : (ended : Stop)
+      → IsPartOfRun program arguments budget before now ended steps ⊎ IsUnbegun before now ended steps → IsEarly ended
   cut_is_early ended (inl part) = left_is_early before now ended part.output
   cut_is_early ended (inr unbegun) = subst IsEarly (sym unbegun.stop_is) tt
 
-  executed-run : (ended : Stop) → Executed ended → IsRunStop ended → IsRun program arguments budget before now ended steps
+  executed-run : (ended : Stop) → Executed ended → IsRunStop ended
+      → IsRun program arguments budget before now ended steps
   executed-run ended (inl run_is) is = run_is
   executed-run ended (inr cut) is = absurd (early_runs_not ended (cut_is_early ended cut) is)
 
-  executed-cut : (ended : Stop) → Executed ended → IsEarly ended → IsPartOfRun program arguments budget before now ended steps ⊎ IsUnbegun before now ended steps
+  executed-cut : (ended : Stop) → Executed ended → IsEarly ended
+      → IsPartOfRun program arguments budget before now ended steps ⊎ IsUnbegun before now ended steps
   executed-cut ended (inl run_is) early = absurd (early_runs_not ended early (run_stop _ budget ended run_is.stop_is))
   executed-cut ended (inr cut) early = cut
 
@@ -203,12 +213,14 @@ module _ (program : Program) (arguments : List (List ℕ)) (budget : ℕ) (befor
       no_read_fault (inr (same, once)) = cc
   executed-no_read_fault (inr (inr unbegun)) = let same = unbegun.stop_is in cc
 
-  executed-stop : (ended : Stop) → Executed ended → (stop_of (ending (run program arguments budget [])) budget ≡ Some ended) ⊎ IsEarly ended
+  executed-stop : (ended : Stop) → Executed ended
+      → (stop_of (ending (run program arguments budget [])) budget ≡ Some ended) ⊎ IsEarly ended
   executed-stop ended (inl run_is) = inl run_is.stop_is
   executed-stop ended (inr cut) = inr (cut_is_early ended cut)
 
   -- the count of faults of the output, by what it refused last
-  refused-faults : (ended : Stop) → RefusesLast before now ended → RisesFor stop.WriteFault ended before.faults now.faults
+  refused-faults : (ended : Stop) → RefusesLast before now ended
+      → RisesFor stop.WriteFault ended before.faults now.faults
   refused-faults stop.WriteFault refuses = record { rose = λ _. refuses.0; stands = λ no. absurd (no refl) }
   refused-faults stop.OutOfMemory refuses = record { rose = λ is. cc; stands = λ _. refuses.0 }
   refused-faults stop.Done refuses = absurd refuses
@@ -234,16 +246,20 @@ module _ (program : Program) (arguments : List (List ℕ)) (budget : ℕ) (befor
     stands = λ _. ap (λ (sink : SinkState). sink.faults) unbegun.out;
   }
 
-module _ (words : List (List ℕ)) (before now : Outside) (asked : Command) (is : command words ≡ Some asked) (names : StartsAtMost before.files now.files asked.file) where
+module _ (words : List (List ℕ)) (before now : Outside) (asked : Command) (is : command words ≡ Some asked)
+    (names : StartsAtMost before.files now.files asked.file) where
   -- the command is the one that was asked for
   of_asked : (P : Command → Type 0) → P asked → (other : Command) → command words ≡ Some other → P other
   of_asked P p other other_is = subst P (same_command words asked other is other_is) p
 
   -- and so is what the files tell of its file
-  told_of_asked : (other : Command) (source : List ℕ) → command words ≡ Some other → before.files.bytes_of other.file ≡ Some source → before.files.bytes_of asked.file ≡ Some source
+  told_of_asked : (other : Command) (source : List ℕ) → command words ≡ Some other
+      → before.files.bytes_of other.file ≡ Some source → before.files.bytes_of asked.file ≡ Some source
   told_of_asked other source other_is told = subst (λ a. before.files.bytes_of a.file ≡ Some source) (sym (same_command words asked other is other_is)) told
 
-  pub obeys-refused : {T : Type 0} (ended : Stop) → now.out ≡ before.out → RefusesFile before.files asked.file ended → Counts {T = T} stop.ReadFault before.files.faults now.files.faults (Err ended) → Obeys words before now None ended 0
+  pub obeys-refused : {T : Type 0} (ended : Stop) → now.out ≡ before.out → RefusesFile before.files asked.file ended
+      → Counts {T = T} stop.ReadFault before.files.faults now.files.faults (Err ended)
+      → Obeys words before now None ended 0
   obeys-refused {T} ended same refused counts =
       let Refuses : Stop → Type 0 = RefusesFile before.files asked.file in
       let nothing : PrintsNothing words before now ended 0 = record { out = same; no_step = refl } in
@@ -261,7 +277,10 @@ module _ (words : List (List ℕ)) (before now : Outside) (asked : Command) (is 
         run_is = λ run_stop. absurd (refused-runs_not before.files asked.file ended refused run_stop);
         early_end = record { write_fault = λ fault. absurd (subst Refuses fault refused); out_of_memory = λ _. inl nothing };
         causes = record {
-          read_fault = record { rose = λ is. counts.rose (ap Err is); stands = λ no. counts.stands (λ is. no (err_same ended stop.ReadFault is)) };
+          read_fault = record {
+            rose = λ is. counts.rose (ap Err is);
+            stands = λ no. counts.stands (λ is. no (let same : ended ≡ stop.ReadFault = cc in same));
+          };
           write_fault = record {
             rose = λ fault. absurd (subst Refuses fault refused);
             stands = λ _. ap (λ (sink : SinkState). sink.faults) same;
@@ -283,7 +302,9 @@ module _ (words : List (List ℕ)) (before now : Outside) (asked : Command) (is 
         program_is = λ run_stop. absurd (refused-runs_not before.files asked.file ended refused run_stop);
       }
 
-  module _ (program : Program) (ended : Stop) (steps : ℕ) (has : HasProgram before.files asked.file program) (unfailed : now.files.faults ≡ before.files.faults) (executes : Executes program (arguments_of asked) asked.steps before.out now.out ended steps) where
+  module _ (program : Program) (ended : Stop) (steps : ℕ) (has : HasProgram before.files asked.file program)
+      (unfailed : now.files.faults ≡ before.files.faults)
+      (executes : Executes program (arguments_of asked) asked.steps before.out now.out ended steps) where
     abbrev Ends : Stop → Type 0
     Ends s = Executes program (arguments_of asked) asked.steps before.out now.out s steps
 
@@ -295,17 +316,22 @@ module _ (words : List (List ℕ)) (before now : Outside) (asked : Command) (is 
       run_is = executed-run program (arguments_of asked) asked.steps before.out now.out steps ended executes is_run;
     }
 
-    runs_in_part : IsPartOfRun program (arguments_of asked) asked.steps before.out now.out ended steps → RunsInPart words before now ended steps
+    runs_in_part : IsPartOfRun program (arguments_of asked) asked.steps before.out now.out ended steps
+        → RunsInPart words before now ended steps
     runs_in_part part = record { asked = asked; command_is = is; program = program; has = has; part = part }
 
-    cut : (s : Stop) → ended ≡ s → IsEarly s → IsPartOfRun program (arguments_of asked) asked.steps before.out now.out ended steps ⊎ IsUnbegun before.out now.out ended steps
+    cut : (s : Stop) → ended ≡ s → IsEarly s
+        → IsPartOfRun program (arguments_of asked) asked.steps before.out now.out ended steps ⊎ IsUnbegun before.out now.out ended steps
     cut s same early = executed-cut program (arguments_of asked) asked.steps before.out now.out steps ended executes (subst IsEarly (sym same) early)
 
-    fails_in_part : ended ≡ stop.WriteFault → IsPartOfRun program (arguments_of asked) asked.steps before.out now.out ended steps ⊎ IsUnbegun before.out now.out ended steps → RunsInPart words before now ended steps
+    fails_in_part : ended ≡ stop.WriteFault
+        → IsPartOfRun program (arguments_of asked) asked.steps before.out now.out ended steps ⊎ IsUnbegun before.out now.out ended steps
+        → RunsInPart words before now ended steps
     fails_in_part fault (inl part) = runs_in_part part
     fails_in_part fault (inr unbegun) = let same = unbegun.stop_is in cc
 
-    nothing_or_part : IsPartOfRun program (arguments_of asked) asked.steps before.out now.out ended steps ⊎ IsUnbegun before.out now.out ended steps → PrintsNothing words before now ended steps ⊎ RunsInPart words before now ended steps
+    nothing_or_part : IsPartOfRun program (arguments_of asked) asked.steps before.out now.out ended steps ⊎ IsUnbegun before.out now.out ended steps
+        → PrintsNothing words before now ended steps ⊎ RunsInPart words before now ended steps
     nothing_or_part (inl part) = inr (runs_in_part part)
     nothing_or_part (inr unbegun) = inl (record { out = unbegun.out; no_step = unbegun.no_step })
 
@@ -319,14 +345,17 @@ module _ (words : List (List ℕ)) (before now : Outside) (asked : Command) (is 
     no_refusal why e = executed-refuses_not program (arguments_of asked) asked.steps before.out now.out steps (stop.Refused why) (subst Ends e executes) tt
 
     -- the source that was read is the one that is told
-    told_source : (other : Command) (source : List ℕ) → command words ≡ Some other → before.files.bytes_of other.file ≡ Some source → has.source ≡ source
+    told_source : (other : Command) (source : List ℕ) → command words ≡ Some other
+        → before.files.bytes_of other.file ≡ Some source → has.source ≡ source
     told_source other source other_is told = told_is (before.files.bytes_of asked.file) has.source source has.told (told_of_asked other source other_is told)
 
-    accepted_told : (other : Command) (source : List ℕ) → command words ≡ Some other → before.files.bytes_of other.file ≡ Some source → Accepted source program
+    accepted_told : (other : Command) (source : List ℕ) → command words ≡ Some other
+        → before.files.bytes_of other.file ≡ Some source → Accepted source program
     accepted_told other source other_is told = subst (λ s. Accepted s program) (told_source other source other_is told) has.accepted
 
     -- the stop is that of the one program of the source
-    stop_as_told : (other : Command) (source : List ℕ) (q : Program) → command words ≡ Some other → before.files.bytes_of other.file ≡ Some source → Accepted source q
+    stop_as_told : (other : Command) (source : List ℕ) (q : Program) → command words ≡ Some other
+        → before.files.bytes_of other.file ≡ Some source → Accepted source q
         → (stop_of (ending (run q (arguments_of other) other.steps [])) other.steps ≡ Some ended) ⊎ IsEarly ended
     stop_as_told other source q other_is told accepted =
         let one : q ≡ program = has.only q (subst (λ s. Accepted s q) (sym (told_source other source other_is told)) accepted) in

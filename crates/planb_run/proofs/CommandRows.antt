@@ -32,7 +32,8 @@ an_empty_argument = refl
 a_budget : command (codes "planb" ∷ codes "--steps" ∷ codes "3" ∷ codes "F" ∷ []) ≡ runs [] 3
 a_budget = refl
 
-a_budget_and_an_argument : command (codes "planb" ∷ codes "--steps" ∷ codes "3" ∷ codes "F" ∷ codes "a" ∷ []) ≡ runs (codes "a" ∷ []) 3
+a_budget_and_an_argument : command (codes "planb" ∷ codes "--steps" ∷ codes "3" ∷ codes "F" ∷ codes "a" ∷ []) ≡ runs
+    (codes "a" ∷ []) 3
 a_budget_and_an_argument = refl
 
 the_largest_budget : command (codes "planb" ∷ codes "--steps" ∷ codes "999999999999999999" ∷ codes "F" ∷ []) ≡ runs [] 999999999999999999

@@ -1,5 +1,5 @@
 -- What reading a source leads to.
-use Rattle.std.proofs.Common.{◌≡◌, ℕ, ◌<◌, false, List, length, Option, Some, None, Result, Ok, Err, refl}
+use Rattle.std.proofs.Common.{◌≡◌, ℕ, ◌<◌, false, List, length, Option, Some, None, Ok, Err, refl}
 use Rattle.std.specs.Prelude.{IfSome}
 use Rattle.pb_io.specs.declared.files.ReadError.{ReadError}
 use Rattle.pb_io.specs.declared.files.ReadError.TheVariants as read

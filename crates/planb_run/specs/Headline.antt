@@ -214,14 +214,14 @@ module _ (words : List (List ℕ)) (before now : Outside) (ended : Stop) (steps 
     pub accepted : (asked : Command) (source : List ℕ) (program : Program) → command words ≡ Some asked
         → before.files.bytes_of asked.file ≡ Some source → Accepted source program
         → (stop_of (ending (run program (arguments_of asked) asked.steps [])) asked.steps ≡ Some ended)
-            ⊎ IsEarly ended
+        ⊎ IsEarly ended
 
   -- where a run came to its end, this is the program that ran
   abbrev pub IsProgramOfRun : Option Program → Type 0
   IsProgramOfRun program = IsRunStop ended → MatchOption program ⊥ RunsWhole
 
--- a text was written whole and flushed once, or a prefix of it was written; each error has its cause, and each cause its
--- error
+-- a text was written whole and flushed once, or a prefix of it was written; each error has its cause, and each cause
+-- its error
 pub record Tells (before now : SinkState) (text : List ℕ) (told : Reported) : Type 0 where
   pub whole : told ≡ reported.Whole → now.written ≡ with_bytes before.written text
   pub flushed : told ≡ reported.Whole → FlushesOnce before now

@@ -19,8 +19,9 @@ pub struct Executed {
     pub steps: u64,
 }
 
-/// Runs a program with these arguments and a budget of steps and flushes the output once, whatever the run's ending. Where
-/// the output refused a call in the run, it isn't used again, and where there was no memory to begin, it isn't used at all.
+/// Runs a program with these arguments and a budget of steps and flushes the output once, whatever the run's ending.
+/// Where the output refused a call in the run, it isn't used again, and where there was no memory to begin, it isn't
+/// used at all.
 pub fn execute<O: Sink>(
     alloc: Global,
     program: &Program,

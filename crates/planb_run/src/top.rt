@@ -15,8 +15,8 @@ use std::alloc::Global;
 
 /// Does what the words of a command line ask, of which the first is the program's name: it reads the file, runs the
 /// program with its arguments and budget of steps into `out`, flushes `out`, and writes and flushes the report of the
-/// stop. The first stage that fails decides the stop, and the report is written in every case. A sink that refused a call
-/// isn't used again, and where no run began nothing is done to `out`.
+/// stop. The first stage that fails decides the stop, and the report is written in every case. A sink that refused a
+/// call isn't used again, and where no run began nothing is done to `out`.
 pub fn planb<F: Files, O: Sink, R: Sink>(
     alloc: Global,
     words: &[String],

@@ -32,7 +32,8 @@ an_empty_argument = refl
 a_budget : command (codes "planb" ∷ codes "--steps" ∷ codes "3" ∷ codes "F" ∷ []) ≡ runs [] 3
 a_budget = refl
 
-a_budget_and_an_argument : command (codes "planb" ∷ codes "--steps" ∷ codes "3" ∷ codes "F" ∷ codes "a" ∷ []) ≡ runs (codes "a" ∷ []) 3
+a_budget_and_an_argument : command (codes "planb" ∷ codes "--steps" ∷ codes "3" ∷ codes "F" ∷ codes "a" ∷ []) ≡ runs
+    (codes "a" ∷ []) 3
 a_budget_and_an_argument = refl
 
 the_largest_budget : command (codes "planb" ∷ codes "--steps" ∷ codes "999999999999999999" ∷ codes "F" ∷ []) ≡ runs [] 999999999999999999
@@ -47,8 +48,8 @@ a_negative_budget = refl
 a_budget_twice : command (codes "planb" ∷ codes "--steps" ∷ codes "5" ∷ codes "--steps" ∷ codes "5" ∷ codes "F" ∷ []) ≡ None
 a_budget_twice = refl
 
-a_budget_behind_the_file : command (codes "planb" ∷ codes "F" ∷ codes "--steps" ∷ codes "5" ∷ []) ≡ None
-a_budget_behind_the_file = refl
+a_budget_after_the_file : command (codes "planb" ∷ codes "F" ∷ codes "--steps" ∷ codes "5" ∷ []) ≡ None
+a_budget_after_the_file = refl
 
 an_argument_with_a_dash : command (codes "planb" ∷ codes "F" ∷ codes "a" ∷ codes "-1" ∷ []) ≡ None
 an_argument_with_a_dash = refl

@@ -27,7 +27,8 @@ own = numerals_by_fold AreDigits tells_digits (λ n ds. fold (λ sum digit. sum 
 })
 
 -- at most eighteen digits are parsed as the number that they spell
-pub parsed : {E : Type 0} (ds : List ℕ) (r : Result ℕ E) → ParsesUnsigned 64 10 ds r → list_all is_ascii_digit ds ≡ true → 0 < length ds → length ds ≤ 18 → r ≡ Ok (number_of ds)
+pub parsed : {E : Type 0} (ds : List ℕ) (r : Result ℕ E) → ParsesUnsigned 64 10 ds r
+    → list_all is_ascii_digit ds ≡ true → 0 < length ds → length ds ≤ 18 → r ≡ Ok (number_of ds)
 parsed ds r parses all some few =
     let short = digits_value_short own ds 18 all few in
     parse_gives own 64 ds r parses all some (omega (arith, short))

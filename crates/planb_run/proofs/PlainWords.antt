@@ -7,7 +7,8 @@ use Rattle.planb_run.specs.Command.{begins_with_dash, command_with}
 use Rattle.planb_run.specs.Words.{texts}
 
 -- a test of all texts is one of all words
-pub all_texts : (test : List ℕ → Bool) (words : List (String Global)) → list_all test (texts words) ≡ list_all (λ word. test (string_bytes word)) words
+pub all_texts : (test : List ℕ → Bool) (words : List (String Global))
+    → list_all test (texts words) ≡ list_all (λ word. test (string_bytes word)) words
 all_texts test [] = refl
 all_texts test (word ∷ words) = ap (λ b. test (string_bytes word) && b) (all_texts test words)
 
@@ -16,7 +17,8 @@ abbrev are_plain : List (String Global) → Bool
 are_plain words = list_all (λ word. not (begins_with_dash (string_bytes word))) words
 
 -- the command of words of which none begins with `-`
-pub plain_command : (steps : ℕ) (words : List (String Global)) (file : String Global) (arguments : List (String Global)) → words ≡ file ∷ arguments → are_plain words ≡ true
+pub plain_command : (steps : ℕ) (words : List (String Global)) (file : String Global) (arguments : List (String Global))
+    → words ≡ file ∷ arguments → are_plain words ≡ true
     → command_with steps (texts words) ≡ Some (record { file = string_bytes file; arguments = texts arguments; steps = steps })
 plain_command steps words file arguments is plain =
     let all : list_all (λ word. not (begins_with_dash word)) (texts (file ∷ arguments)) ≡ true =
@@ -24,7 +26,8 @@ plain_command steps words file arguments is plain =
     ap (λ all. command_with steps (texts all)) is ∙ rw all refl
 
 -- there is none where a word does
-pub dashed_command : (steps : ℕ) (words : List (String Global)) → are_plain words ≡ false → command_with steps (texts words) ≡ None
+pub dashed_command : (steps : ℕ) (words : List (String Global)) → are_plain words ≡ false
+    → command_with steps (texts words) ≡ None
 dashed_command steps [] dashed = refl
 dashed_command steps (file ∷ arguments) dashed =
     let all : list_all (λ word. not (begins_with_dash word)) (texts (file ∷ arguments)) ≡ false =

@@ -43,23 +43,27 @@ refusal_of-lexical kinds.Number at = refl
 refusal_of-lexical kinds.Unclosed at = refl
 
 -- two that are one error are of one kind at one byte
-same_lexical : (one other : TokenKindError) (at place : ℕ) → lexical_error one at ≡ lexical_error other place → refusal.Lexical one at ≡ refusal.Lexical other place
+same_lexical : (one other : TokenKindError) (at place : ℕ) → lexical_error one at ≡ lexical_error other place
+    → refusal.Lexical one at ≡ refusal.Lexical other place
 same_lexical one other at place same = sym (refusal_of-lexical one at) ∙ ap refusal_of same ∙ refusal_of-lexical other place
 
 -- a source with tokens has no lexical fault
-faultless : (source : List ℕ) (tokens : List Token) (kind : TokenKindError) (at : ℕ) → AreTokens source tokens → HasFault source (lexical_error kind at) → ⊥
+faultless : (source : List ℕ) (tokens : List Token) (kind : TokenKindError) (at : ℕ) → AreTokens source tokens
+    → HasFault source (lexical_error kind at) → ⊥
 faultless source tokens kind at read fault = no_list_with_fault source tokens (lexical_error kind at) (lexical_known kind at) read fault
 
 -- ---- a source that is longer, or has a lexical fault, is refused for that
 
-pub refused_long : (source : List ℕ) (why : SourceRefusal) → RefusesFor source why → most_bytes < length source → why ≡ refusal.TooLong
+pub refused_long : (source : List ℕ) (why : SourceRefusal) → RefusesFor source why → most_bytes < length source
+    → why ≡ refusal.TooLong
 refused_long source refusal.TooLong refused long = refl
 refused_long source (refusal.Lexical kind at) refused long = absurd (omega (arith, refused.few))
 refused_long source (refusal.Syntax line column) refused long = absurd (omega (arith, refused.few))
 refused_long source refusal.TooDeep refused long = absurd (omega (arith, refused.few))
 refused_long source (refusal.Fault rule line column) refused long = absurd (omega (arith, refused.few))
 
-pub refused_lexical : (source : List ℕ) (why : SourceRefusal) (kind : TokenKindError) (at : ℕ) → RefusesFor source why → length source ≤ most_bytes → HasFault source (lexical_error kind at) → why ≡ refusal.Lexical kind at
+pub refused_lexical : (source : List ℕ) (why : SourceRefusal) (kind : TokenKindError) (at : ℕ) → RefusesFor source why
+    → length source ≤ most_bytes → HasFault source (lexical_error kind at) → why ≡ refusal.Lexical kind at
 refused_lexical source refusal.TooLong kind at refused few fault = absurd (omega (arith, refused))
 refused_lexical source (refusal.Lexical other place) kind at refused few fault =
     same_lexical other kind place at
@@ -68,7 +72,8 @@ refused_lexical source (refusal.Syntax line column) kind at refused few fault = 
 refused_lexical source refusal.TooDeep kind at refused few fault = absurd (faultless source refused.tokens kind at refused.read fault)
 refused_lexical source (refusal.Fault rule line column) kind at refused few fault = absurd (faultless source refused.tokens kind at refused.read fault)
 
-pub accepted_faultless : (source : List ℕ) (program : Program) (kind : TokenKindError) (at : ℕ) → Accepted source program → HasFault source (lexical_error kind at) → ⊥
+pub accepted_faultless : (source : List ℕ) (program : Program) (kind : TokenKindError) (at : ℕ)
+    → Accepted source program → HasFault source (lexical_error kind at) → ⊥
 accepted_faultless source program kind at accepted fault = faultless source accepted.tokens kind at accepted.read fault
 
 -- ---- no source is both accepted and refused
@@ -79,11 +84,13 @@ not_broken tree f clear (inr (none, inl has)) = subst (λ faults. Has faults f) 
 not_broken tree f clear (inr (none, inr (typed, has))) = subst (λ faults. Has faults f) clear.throws has
 
 -- the tree of an accepted source spells the tokens, as these are the only ones
-spelled_by : (source : List ℕ) (program : Program) (tokens : List Token) → (accepted : Accepted source program) → AreTokens source tokens → Spells accepted.program_is.tree tokens
+spelled_by : (source : List ℕ) (program : Program) (tokens : List Token) → (accepted : Accepted source program)
+    → AreTokens source tokens → Spells accepted.program_is.tree tokens
 spelled_by source program tokens accepted read =
     subst (Spells accepted.program_is.tree) (one_list source accepted.tokens tokens accepted.read read) accepted.program_is.spelled
 
-pub refused_unaccepted : (source : List ℕ) (why : SourceRefusal) (program : Program) → RefusesFor source why → Accepted source program → ⊥
+pub refused_unaccepted : (source : List ℕ) (why : SourceRefusal) (program : Program) → RefusesFor source why
+    → Accepted source program → ⊥
 refused_unaccepted source refusal.TooLong program refused accepted = omega (arith, refused, accepted.few)
 refused_unaccepted source (refusal.Lexical kind at) program refused accepted = accepted_faultless source program kind at accepted refused.fault
 refused_unaccepted source (refusal.Syntax line column) program refused accepted =

@@ -36,7 +36,8 @@ refusal_text (refusal.Fault rule line column) = codes "rule " ++ decimal rule ++
 
 -- the characters of the name of a class
 abbrev pub class_name : Option Program → ℕ → List ℕ
-class_name program number = option_map_or (λ class. class.name) (option_and_then (λ p. slice_get p.classes number) program) []
+class_name program number =
+    option_map_or (λ class. class.name) (option_and_then (λ p. slice_get p.classes number) program) []
 
 -- a backslash is doubled, a line feed is `\n`, a carriage return is `\r`
 abbrev pub escape : ℕ → List ℕ
@@ -50,13 +51,14 @@ escape c =
 abbrev pub escaped : List ℕ → List ℕ
 escaped message = flat_map escape message
 
--- what stands behind the name of the class: the message, where there is one, and the end of the line
+-- what follows the name of the class: the message, where there is one, and the end of the line
 abbrev pub message_text : Option (List ℕ) → List ℕ
 message_text None = codes "\n"
 message_text (Some message) = codes ": " ++ (encode_utf8_all (escaped message) ++ codes "\n")
 
 abbrev pub uncaught_text : Option Program → ℕ → Option (List ℕ) → List ℕ
-uncaught_text program number message = codes "uncaught " ++ (encode_utf8_all (class_name program number) ++ message_text message)
+uncaught_text program number message =
+    codes "uncaught " ++ (encode_utf8_all (class_name program number) ++ message_text message)
 
 -- ---- the report
 

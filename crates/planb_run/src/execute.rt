@@ -1,8 +1,8 @@
-ghost use Rattle.std.specs.Prelude.{◌≡◌, IsTrue, map};
+ghost use Rattle.std.specs.Prelude.{◌≡◌, map};
 ghost use Rattle.core_tree.specs.WellTyped.{IsWellTyped};
 ghost use Rattle.interpreter.specs.Machine.{text_of};
 ghost use Rattle.planb_run.specs.Causes.{run_stop};
-ghost use Rattle.planb_run.specs.Stages.{Executes, Flushes, MayBeRefused};
+ghost use Rattle.planb_run.specs.Stages.{Executes, Flushes};
 
 use crate::Stop;
 use core_tree::Program;
@@ -19,8 +19,9 @@ pub struct Executed {
     pub steps: u64,
 }
 
-/// Runs a program with these arguments and a budget of steps and flushes the output, whatever the run's ending, unless a
-/// call of the output was refused in the run: then the output isn't used again.
+/// Runs a program with these arguments and a budget of steps and flushes the output once, whatever the run's ending.
+/// Where the output refused a call in the run, it isn't used again, and where there was no memory to begin, it isn't
+/// used at all.
 pub fn execute<O: Sink>(
     alloc: Global,
     program: &Program,
@@ -42,7 +43,7 @@ pub fn execute<O: Sink>(
     let mut machine = Machine::new(alloc, store);
     let stop = stop_of(machine.run(program, arguments, budget, out), budget);
     let steps = machine.steps_taken();
-    if is_refused(&stop, machine.sink_refused()) {
+    if machine.sink_refused() {
         return Executed { stop, steps };
     }
     spent_runs_leave_none();
@@ -66,18 +67,7 @@ fn stop_of(ended: RunStop, budget: u64) -> Stop
     }
 }
 
-// Whether the output refused a call in the run.
-fn is_refused(stop: &Stop, sink_refused: bool) -> bool
-    ensures { IsTrue result → MayBeRefused stop.now }
-{
-    match stop {
-        Stop::WriteFault => true,
-        Stop::OutOfMemory => sink_refused,
-        _ => false,
-    }
-}
-
-// Flushes the output. The stop stays, unless the flush failed.
+// Flushes the output. The stop stays, unless the flush was refused.
 fn flushed<O: Sink>(out: &mut O, stop: Stop) -> Stop
     ensures { Flushes (O.state out.old) (O.state out.new) stop result }
 {

@@ -1,4 +1,5 @@
 ghost use Rattle.std.specs.Prelude.{◌≡◌, IfOk, IfErr};
+ghost use Rattle.pb_io.specs.Faults.{Counts};
 ghost use Rattle.core_tree.specs.WellTyped.{IsWellTyped};
 ghost use Rattle.planb_run.specs.Headline.{StartsAtMost, HasProgram};
 ghost use Rattle.planb_run.specs.Stages.{RefusesFile};
@@ -38,11 +39,13 @@ impl From<SourceError> for Stop {
     }
 }
 
-/// The program of the source behind a file's name, or why there is none. It starts the file at most once, and no other.
+/// The program of the source in the file of this name, or why there is none. It starts the file at most once, and no
+/// other. A read fault comes exactly where the files failed.
 pub fn load<F: Files>(alloc: Global, files: &mut F, file: &str) -> Result<Program, Stop>
     ensures ok { IfOk result (HasProgram (F.state files.old) file.now) }
     ensures well_typed { IfOk result IsWellTyped }
-    ensures err { IfErr result (RefusesFile (F.state files.old) (F.state files.new) file.now) }
+    ensures err { IfErr result (RefusesFile (F.state files.old) file.now) }
+    ensures faults { Counts Stop.ReadFault (F.state files.old).faults (F.state files.new).faults result }
     ensures names { StartsAtMost (F.state files.old) (F.state files.new) file.now }
 {
     let bytes = read_file(alloc, files, file, MOST_BYTES)?;

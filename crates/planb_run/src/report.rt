@@ -18,7 +18,8 @@ pub fn write_report<O: Sink>(
     program: Option<&Program>,
     stop: &Stop,
 ) -> Result<(), PutError>
-    ensures { Puts (O.state sink.old) (O.state sink.new) (report (option_map (λ p. p.now) program.entry) stop.now) result }
+    ensures { Puts (O.state sink.old) (O.state sink.new)
+        (report (option_map (λ p. p.now) program.entry) stop.now) result }
 {
     match stop {
         Stop::Done => Ok(()),

@@ -14,8 +14,9 @@ use pb_io::{Files, OutsideFault, PutError, Sink};
 use std::alloc::Global;
 
 /// Does what the words of a command line ask, of which the first is the program's name: it reads the file, runs the
-/// program with its arguments and budget of steps into `out`, flushes `out`, and writes the report of the stop. The first stage that
-/// fails decides the stop, and the report is written in every case.
+/// program with its arguments and budget of steps into `out`, flushes `out`, and writes and flushes the report of the
+/// stop. The first stage that fails decides the stop, and the report is written in every case. A sink that refused a
+/// call isn't used again, and where no run began nothing is done to `out`.
 pub fn planb<F: Files, O: Sink, R: Sink>(
     alloc: Global,
     words: &[String],
@@ -23,13 +24,13 @@ pub fn planb<F: Files, O: Sink, R: Sink>(
     out: &mut O,
     report: &mut R,
 ) -> Ending
-    // Usage comes exactly where the words are no command; then nothing happened.
+    // Usage comes exactly where the words are no command; then nothing was done to the files and the output.
     ensures words { RefusesWords (texts words.now)
         (record { files = F.state files.old; out = O.state out.old })
         (record { files = F.state files.new; out = O.state out.new })
         result.stop result.steps }
 
-    // A refusal and a read fault leave nothing printed, and no name but the file's is started.
+    // After a refusal and a read fault the output is as it was, and no name but the file's is started.
     ensures source { ReadsSource (texts words.now)
         (record { files = F.state files.old; out = O.state out.old })
         (record { files = F.state files.new; out = O.state out.new })
@@ -41,7 +42,7 @@ pub fn planb<F: Files, O: Sink, R: Sink>(
         (record { files = F.state files.new; out = O.state out.new })
         result.stop result.steps }
 
-    // What running out of memory and a write fault leave.
+    // What is printed, flushed and refused where memory runs out and where the output fails.
     ensures early_end { EndsEarly (texts words.now)
         (record { files = F.state files.old; out = O.state out.old })
         (record { files = F.state files.new; out = O.state out.new })
@@ -53,7 +54,7 @@ pub fn planb<F: Files, O: Sink, R: Sink>(
         (record { files = F.state files.new; out = O.state out.new })
         (R.state report.old) (R.state report.new) result }
 
-    // Each stop has its cause.
+    // Each stop has its cause, and each fault its stop.
     ensures causes { HasCauses (texts words.now)
         (record { files = F.state files.old; out = O.state out.old })
         (record { files = F.state files.new; out = O.state out.new })
@@ -120,7 +121,8 @@ fn perform<F: Files, O: Sink>(
 
 // Writes and flushes the report.
 fn tell<R: Sink>(sink: &mut R, program: Option<&Program>, stop: &Stop) -> Reported
-    ensures { Tells (R.state sink.old) (R.state sink.new) (report (option_map (λ p. p.now) program.entry) stop.now) result }
+    ensures { Tells (R.state sink.old) (R.state sink.new)
+        (report (option_map (λ p. p.now) program.entry) stop.now) result }
 {
     match write_report(sink, program, stop) {
         Ok(()) => match sink.flush() {

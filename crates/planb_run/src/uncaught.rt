@@ -36,7 +36,7 @@ fn name_of<'p>(program: Option<&'p Program>, class: u32) -> &'p [char]
     }
 }
 
-// Writes what stands behind the name of the class.
+// Writes what follows the name of the class.
 fn put_message<O: Sink>(sink: &mut O, message: &Option<Text>) -> Result<(), PutError>
     ensures { Puts (O.state sink.old) (O.state sink.new) (message_text message.now) result }
 {

@@ -7,5 +7,5 @@ pub returns-in_err-bytes-clause-err : goal.returns-in_err-bytes-clause-err
 returns-in_err-bytes-clause-err g c =
     let told = c.in_err-bytes.ensures in
     let p = err_from_is_err_and c.from_residual.result c.from_residual.ensures.1 in
-    rw (p.1, p.2) (unread (g.F.Files.state c.args.files.now) (g.F.Files.state c.read_file.new.files) c.args.file.now _
-    (λ e. told.cause (ap Err e)) (λ e. told.too_long_there (ap Err e)) (λ e. told.too_long (ap Err e)))
+    rw (p.1, p.2) (unread (g.F.Files.state c.args.files.now) c.args.file.now _
+    (λ e. told.too_long_there (ap Err e)) (λ e. told.too_long (ap Err e)))

@@ -1,4 +1,4 @@
-"""Sources for the check of names and types: each shape in some sizes, as a text of at most so many bytes."""
+"""Sources for the check of names and types: each shape in some sizes, as a text of at most that many bytes."""
 
 
 def _main(body):

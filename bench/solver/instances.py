@@ -10,7 +10,7 @@ def text(variables, clauses):
 
 
 def random_3sat(variables, ratio, seed):
-    """Random clauses of three variables, so many for each variable."""
+    """Random clauses of three variables, that many for each variable."""
     source = random.Random(seed)
     clauses = []
     for _ in range(round(variables * ratio)):

@@ -4,17 +4,17 @@ MAIN = "class Main { public static void main(String[] args) { } }\n"
 
 
 def methods(first, count):
-    """So many methods with numbered names."""
+    """That many methods with numbered names."""
     return "".join(f"void m{k}(){{}}" for k in range(first, first + count))
 
 
 def constants(first, count):
-    """So many constants with numbered names."""
+    """That many constants with numbered names."""
     return "".join(f"static final int k{k}=1;" for k in range(first, first + count))
 
 
 def classes(count, is_chain, members):
-    """So many classes beside `Main`, each below the one before it where they are a chain."""
+    """That many classes beside `Main`, each below the one before it where they are a chain."""
     lines = [MAIN]
     for k in range(count):
         parent = f" extends C{k - 1}" if is_chain and k > 0 else ""

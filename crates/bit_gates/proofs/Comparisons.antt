@@ -20,12 +20,19 @@ use Rattle.bit_gates.proofs.Wholes.{InRange, whole-split, order-cases, equality,
 use Rattle.bit_gates.proofs.Widths.{HasDigits, digits_of, in-range, sign-last, width-le}
 use Rattle.bit_gates.proofs.Steps.{unsigned-lt}
 
-sign-at : (value : Node → Bool) (xs : List Node) (n : ℕ) → length xs ≡ suc n → sign (map value xs) ≡ value (get_or xs n (record { place = 0 }))
+sign-at : (value : Node → Bool) (xs : List Node) (n : ℕ) → length xs ≡ suc n
+    → sign (map value xs) ≡ value (get_or xs n (record { place = 0 }))
 sign-at value xs n size =
     let e : length xs - 1 ≡ n = omega arith in
     sign-last value xs (omega arith) ∙ ap (λ k. value (get_or xs k (record { place = 0 }))) e
 
-pub less-value : (value : Node → Bool) (xs ys lowx lowy lower : List Node) (n : ℕ) (c d r : Bool) → length xs ≡ suc n → length ys ≡ suc n → lowx ≡ take n xs → lowy ≡ take n ys → length lower ≡ length lowx → IsJoin Difference (unsigned (map value lowx)) (unsigned (map value lowy)) (unsigned (map value lower)) (bit c * 2 ^ length lowx) → d ≡ differ (value (get_or xs n (record { place = 0 }))) (value (get_or ys n (record { place = 0 }))) → r ≡ (if d then value (get_or xs n (record { place = 0 })) else c) → r ≡ int_lt (whole (map value xs)) (whole (map value ys))
+pub less-value : (value : Node → Bool) (xs ys lowx lowy lower : List Node) (n : ℕ) (c d r : Bool) → length xs ≡ suc n
+    → length ys ≡ suc n → lowx ≡ take n xs → lowy ≡ take n ys → length lower ≡ length lowx
+    → IsJoin Difference (unsigned (map value lowx)) (unsigned (map value lowy)) (unsigned (map value lower))
+    (bit c * 2 ^ length lowx)
+    → d ≡ differ (value (get_or xs n (record { place = 0 }))) (value (get_or ys n (record { place = 0 })))
+    → r ≡ (if d then value (get_or xs n (record { place = 0 })) else c)
+    → r ≡ int_lt (whole (map value xs)) (whole (map value ys))
 less-value value xs ys lowx lowy lower n c d r h k e g size join is out =
     let x = map value xs in
     let y = map value ys in
@@ -45,7 +52,9 @@ less-value value xs ys lowx lowy lower n c d r h k e g size join is out =
     chosen ∙ order-cases (2 ^ n) (unsigned (take n x)) (unsigned (take n y)) s (sign x) (sign y) c below under small balance
     ∙ ap (λ z. int_lt z (pos (unsigned (take n y)) -ℤ pos (bit (sign y) * 2 ^ n))) (sym (whole-split x n hx)) ∙ ap (int_lt (whole x)) (sym (whole-split y n hy))
 
-pub equal-value : (value : Node → Bool) (xs ys : List Node) (n : ℕ) (d r : Bool) → length xs ≡ suc n → length ys ≡ suc n → Differs d (unsigned (map value xs)) (unsigned (map value ys)) → r ≡ not d → r ≡ int_eq (whole (map value xs)) (whole (map value ys))
+pub equal-value : (value : Node → Bool) (xs ys : List Node) (n : ℕ) (d r : Bool) → length xs ≡ suc n
+    → length ys ≡ suc n → Differs d (unsigned (map value xs)) (unsigned (map value ys)) → r ≡ not d
+    → r ≡ int_eq (whole (map value xs)) (whole (map value ys))
 equal-value value xs ys n d r h k j e = equality (map value xs) (map value ys) n d r (length-map xs value ∙ h) (length-map ys value ∙ k) j e
 
 abs-negated : (z : ℤ) → unsigned_abs (pos 0 -ℤ z) ≤ unsigned_abs z
@@ -57,7 +66,10 @@ negative z = grind arith
 abs-neg : (z : ℤ) → unsigned_abs (neg_ℤ z) ≤ unsigned_abs z
 abs-neg z = grind arith
 
-pub neg-value : (value : Node → Bool) (a : Bits) (net : List Gate) (ds : List Node) → IsBits net a → a.most ≤ 2 ^ 88 → unsigned_abs (number value a) ≤ a.most → length ds ≡ length a.nodes.items → IsNegation (unsigned (map value a.nodes.items)) (unsigned (map value ds)) (2 ^ length a.nodes.items) → whole (map value ds) ≡ neg_ℤ (number value a)
+pub neg-value : (value : Node → Bool) (a : Bits) (net : List Gate) (ds : List Node) → IsBits net a → a.most ≤ 2 ^ 88
+    → unsigned_abs (number value a) ≤ a.most → length ds ≡ length a.nodes.items
+    → IsNegation (unsigned (map value a.nodes.items)) (unsigned (map value ds)) (2 ^ length a.nodes.items)
+    → whole (map value ds) ≡ neg_ℤ (number value a)
 neg-value value a net ds is small within size j =
     let p = digits_of a.most (omega arith) in
     let n = p.0 in
@@ -75,7 +87,9 @@ parity rest true e = omega (arith, eqb-true (rest % 2) 1 (sym e))
 parity rest false e = let ne = eqb-false (rest % 2) 1 (sym e) in omega (arith, ne)
 
 -- one more binary digit
-pub binary-next : (value : Node → Bool) (done : List Node) (rest pattern : ℕ) (d : Node) → unsigned (map value done) + rest * 2 ^ length done ≡ pattern → value d ≡ nat_eq (rest % 2) 1 → unsigned (map value (done ++ d ∷ [])) + (rest / 2) * 2 ^ length (done ++ d ∷ []) ≡ pattern
+pub binary-next : (value : Node → Bool) (done : List Node) (rest pattern : ℕ) (d : Node)
+    → unsigned (map value done) + rest * 2 ^ length done ≡ pattern → value d ≡ nat_eq (rest % 2) 1
+    → unsigned (map value (done ++ d ∷ [])) + (rest / 2) * 2 ^ length (done ++ d ∷ []) ≡ pattern
 binary-next value done rest pattern d j e =
     let p = 2 ^ length done in
     let split : rest ≡ 2 * (rest / 2) + bit (value d) = parity rest (value d) e in
@@ -85,7 +99,8 @@ binary-next value done rest pattern d j e =
     ap unsigned (map_push value done d) ∙ unsigned-push (map value done) (value d) ∙ ap (λ n. unsigned (map value done) + bit (value d) * 2 ^ n) (length-map done value) in
     rw (double, third) (grind (arith, times, j))
 
-pub binary-none : (value : Node → Bool) (ns : List Node) (pattern : ℕ) → ns ≡ [] → unsigned (map value ns) + pattern * 2 ^ length ns ≡ pattern
+pub binary-none : (value : Node → Bool) (ns : List Node) (pattern : ℕ) → ns ≡ []
+    → unsigned (map value ns) + pattern * 2 ^ length ns ≡ pattern
 binary-none value ns pattern e = ap (λ xs. unsigned (map value xs) + pattern * 2 ^ length xs) e ∙ omega arith
 
 pub binary-done : (u rest n pattern : ℕ) → rest < 1 → u + rest * 2 ^ n ≡ pattern → u ≡ pattern
@@ -95,7 +110,9 @@ binary-done u rest n pattern h e =
     omega (arith, gone)
 
 -- the bits of a constant
-pub constant-value : (n : ℤ) (nodes : List Node) (value : Node → Bool) (most pattern : ℕ) → unsigned_abs n ≡ most → most ≤ 2 ^ 80 → length nodes ≡ width_of most → unsigned (map value nodes) ≡ pattern → (pos 0 ≤ℤ n → pattern ≡ most) → (n <ℤ pos 0 → pattern + most ≡ 2 ^ width_of most) → whole (map value nodes) ≡ n
+pub constant-value : (n : ℤ) (nodes : List Node) (value : Node → Bool) (most pattern : ℕ) → unsigned_abs n ≡ most
+    → most ≤ 2 ^ 80 → length nodes ≡ width_of most → unsigned (map value nodes) ≡ pattern
+    → (pos 0 ≤ℤ n → pattern ≡ most) → (n <ℤ pos 0 → pattern + most ≡ 2 ^ width_of most) → whole (map value nodes) ≡ n
 constant-value n nodes value most pattern abs small size e plain turned =
     let p = digits_of most (omega arith) in
     let k = p.0 in
@@ -125,12 +142,14 @@ pub record IsPattern (n : ℤ) (most pattern width : ℕ) : Type 0 where
   pub turned : n <ℤ pos 0 → pattern + most ≡ 2 ^ width
   pub below : pattern < 2 ^ width
 
-pub pattern-then : (n : ℤ) (most pattern width : ℕ) → int_lt n (pos 0) ≡ true → unsigned_abs n ≡ most → most < 2 ^ width → width < 128 → pattern ≡ (1 * 2 ^ width) % 2 ^ 128 - most → IsPattern n most pattern width
+pub pattern-then : (n : ℤ) (most pattern width : ℕ) → int_lt n (pos 0) ≡ true → unsigned_abs n ≡ most
+    → most < 2 ^ width → width < 128 → pattern ≡ (1 * 2 ^ width) % 2 ^ 128 - most → IsPattern n most pattern width
 pattern-then (pos m) most pattern width t abs h k e = absurd (omega (arith, ltb-true m 0 t))
 pattern-then (negsuc m) most pattern width t abs h k e =
     let shift = one_shl width 128 k in
     record { plain = λ i. absurd (omega (arith, ints, i)); turned = λ i. omega (arith, e, shift, h); below = omega (arith, e, shift, h, abs) }
 
-pub pattern-else : (n : ℤ) (most pattern width : ℕ) → int_lt n (pos 0) ≡ false → most < 2 ^ width → pattern ≡ most → IsPattern n most pattern width
+pub pattern-else : (n : ℤ) (most pattern width : ℕ) → int_lt n (pos 0) ≡ false → most < 2 ^ width → pattern ≡ most
+    → IsPattern n most pattern width
 pattern-else (pos m) most pattern width t h e = record { plain = λ i. e; turned = λ i. absurd (omega (arith, ints, i)); below = omega arith }
 pattern-else (negsuc m) most pattern width t h e = absurd (cc)

@@ -21,7 +21,8 @@ sum-digit false true false = refl
 sum-digit false false true = refl
 sum-digit false false false = refl
 
-difference-digit : (x y c : Bool) → bit (differ (differ x y) c) + bit y + bit c ≡ bit x + 2 * bit (if differ x y then y else c)
+difference-digit : (x y c : Bool)
+    → bit (differ (differ x y) c) + bit y + bit c ≡ bit x + 2 * bit (if differ x y then y else c)
 difference-digit true true true = refl
 difference-digit true true false = refl
 difference-digit true false true = refl
@@ -31,17 +32,20 @@ difference-digit false true false = refl
 difference-digit false false true = refl
 difference-digit false false false = refl
 
-pub sum-step : (rule : Rule) (x y c t d r : Bool) → rule ≡ Sum → t ≡ differ x y → d ≡ differ t c → r ≡ (if t then c else x) → IsStep rule x y c d r
+pub sum-step : (rule : Rule) (x y c t d r : Bool) → rule ≡ Sum → t ≡ differ x y → d ≡ differ t c
+    → r ≡ (if t then c else x) → IsStep rule x y c d r
 sum-step rule x y c t d r is e f g = subst (λ k. IsStep k x y c d r) (sym is) (rw (g, f, e) (sum-digit x y c))
 
-pub difference-step : (rule : Rule) (x y c t d r : Bool) → rule ≡ Difference → t ≡ differ x y → d ≡ differ t c → r ≡ (if t then y else c) → IsStep rule x y c d r
+pub difference-step : (rule : Rule) (x y c t d r : Bool) → rule ≡ Difference → t ≡ differ x y → d ≡ differ t c
+    → r ≡ (if t then y else c) → IsStep rule x y c d r
 difference-step rule x y c t d r is e f g = subst (λ k. IsStep k x y c d r) (sym is) (rw (g, f, e) (difference-digit x y c))
 
 pub join-none : (rule : Rule) (c : Bool) → c ≡ false → IsJoin rule 0 0 0 (bit c * 2 ^ 0)
 join-none Sum c e = rw e refl
 join-none Difference c e = rw e refl
 
-join-more : (rule : Rule) (u v s p : ℕ) (x y c d r : Bool) → IsJoin rule u v s (bit c * p) → IsStep rule x y c d r → IsJoin rule (u + bit x * p) (v + bit y * p) (s + bit d * p) (bit r * (p + p))
+join-more : (rule : Rule) (u v s p : ℕ) (x y c d r : Bool) → IsJoin rule u v s (bit c * p) → IsStep rule x y c d r
+    → IsJoin rule (u + bit x * p) (v + bit y * p) (s + bit d * p) (bit r * (p + p))
 join-more Sum u v s p x y c d r j step =
     let e : (bit d + 2 * bit r) * p ≡ (bit x + bit y + bit c) * p = ap (λ n. n * p) step in
     grind (arith, e, j)
@@ -49,13 +53,20 @@ join-more Difference u v s p x y c d r j step =
     let e : (bit d + bit y + bit c) * p ≡ (bit x + 2 * bit r) * p = ap (λ n. n * p) step in
     grind (arith, e, j)
 
-digit-more : (value : Node → Bool) (xs : List Node) (i : ℕ) (d : Node) → i < length xs → unsigned (map value (take (i + 1) xs)) ≡ unsigned (map value (take i xs)) + bit (value (get_or xs i d)) * 2 ^ i
+digit-more : (value : Node → Bool) (xs : List Node) (i : ℕ) (d : Node) → i < length xs
+    → unsigned (map value (take (i + 1) xs)) ≡ unsigned (map value (take i xs)) + bit (value (get_or xs i d)) * 2 ^ i
 digit-more value xs i d h =
     let within : i ≤ length xs = omega arith in
     let size : length (map value (take i xs)) ≡ i = length-map (take i xs) value ∙ length-take-le i xs within in
     ap unsigned (map_more value xs i d h) ∙ unsigned-push (map value (take i xs)) (value (get_or xs i d)) ∙ ap (λ n. unsigned (map value (take i xs)) + bit (value (get_or xs i d)) * 2 ^ n) size
 
-pub join-next : (rule : Rule) (value : Node → Bool) (xs ys done : List Node) (i : ℕ) (e c d r : Node) → i < length xs → i < length ys → length done ≡ i → IsJoin rule (unsigned (map value (take i xs))) (unsigned (map value (take i ys))) (unsigned (map value done)) (bit (value c) * 2 ^ i) → IsStep rule (value (get_or xs i e)) (value (get_or ys i e)) (value c) (value d) (value r) → IsJoin rule (unsigned (map value (take (i + 1) xs))) (unsigned (map value (take (i + 1) ys))) (unsigned (map value (done ++ d ∷ []))) (bit (value r) * 2 ^ (i + 1))
+pub join-next : (rule : Rule) (value : Node → Bool) (xs ys done : List Node) (i : ℕ) (e c d r : Node) → i < length xs
+    → i < length ys → length done ≡ i
+    → IsJoin rule (unsigned (map value (take i xs))) (unsigned (map value (take i ys))) (unsigned (map value done))
+    (bit (value c) * 2 ^ i)
+    → IsStep rule (value (get_or xs i e)) (value (get_or ys i e)) (value c) (value d) (value r)
+    → IsJoin rule (unsigned (map value (take (i + 1) xs))) (unsigned (map value (take (i + 1) ys)))
+    (unsigned (map value (done ++ d ∷ []))) (bit (value r) * 2 ^ (i + 1))
 join-next rule value xs ys done i e c d r h k size j step =
     let p = 2 ^ i in
     let double : p + p ≡ 2 ^ (i + 1) = omega (arith, pow-suc 2 i, ap (λ n. 2 ^ n) (add-one i)) in
@@ -82,14 +93,18 @@ differ-anyway true false u v p h k ne = λ e. ne (omega arith)
 differ-anyway false true u v p h k ne = λ e. ne (omega arith)
 differ-anyway false false u v p h k ne = λ e. ne (omega arith)
 
-differ-cases : (d x y : Bool) (u v p : ℕ) → u < p → v < p → Differs d u v → Differs (d || differ x y) (u + bit x * p) (v + bit y * p)
+differ-cases : (d x y : Bool) (u v p : ℕ) → u < p → v < p → Differs d u v
+    → Differs (d || differ x y) (u + bit x * p) (v + bit y * p)
 differ-cases true x y u v p h k j = let ne : u ≢ v = j.apart refl in record { same = λ e. absurd (cc); apart = λ e. differ-anyway x y u v p h k ne }
 differ-cases false true true u v p h k j = record { same = λ e. omega (arith, j.same refl); apart = λ e. absurd (cc) }
 differ-cases false false false u v p h k j = record { same = λ e. omega (arith, j.same refl); apart = λ e. absurd (cc) }
 differ-cases false true false u v p h k j = record { same = λ e. absurd (cc); apart = λ e f. absurd (omega (arith, f)) }
 differ-cases false false true u v p h k j = record { same = λ e. absurd (cc); apart = λ e f. absurd (omega (arith, f)) }
 
-pub differ-next : (value : Node → Bool) (xs ys : List Node) (i : ℕ) (e : Node) (d t r : Bool) → i < length xs → i < length ys → Differs d (unsigned (map value (take i xs))) (unsigned (map value (take i ys))) → t ≡ differ (value (get_or xs i e)) (value (get_or ys i e)) → r ≡ (d || t) → Differs r (unsigned (map value (take (i + 1) xs))) (unsigned (map value (take (i + 1) ys)))
+pub differ-next : (value : Node → Bool) (xs ys : List Node) (i : ℕ) (e : Node) (d t r : Bool) → i < length xs
+    → i < length ys → Differs d (unsigned (map value (take i xs))) (unsigned (map value (take i ys)))
+    → t ≡ differ (value (get_or xs i e)) (value (get_or ys i e)) → r ≡ (d || t)
+    → Differs r (unsigned (map value (take (i + 1) xs))) (unsigned (map value (take (i + 1) ys)))
 differ-next value xs ys i e d t r h k j is o =
     let more = differ-cases d (value (get_or xs i e)) (value (get_or ys i e)) _ _ (2 ^ i) (front-lt value xs i (omega arith)) (front-lt value ys i (omega arith)) j in
     let first = sym (digit-more value xs i e h) in
@@ -97,7 +112,10 @@ differ-next value xs ys i e d t r h k j is o =
     let whole : r ≡ (d || differ (value (get_or xs i e)) (value (get_or ys i e))) = o ∙ ap (λ b. d || b) is in
     subst (λ b. Differs b (unsigned (map value (take (i + 1) xs))) (unsigned (map value (take (i + 1) ys)))) (sym whole) (rw (first, second) at more)
 
-pub negation-next : (value : Node → Bool) (ys done : List Node) (i : ℕ) (e b d r : Node) → i < length ys → length done ≡ i → unsigned (map value done) + unsigned (map value (take i ys)) ≡ bit (value b) * 2 ^ i → bit (value d) + bit (value (get_or ys i e)) + bit (value b) ≡ 2 * bit (value r) → unsigned (map value (done ++ d ∷ [])) + unsigned (map value (take (i + 1) ys)) ≡ bit (value r) * 2 ^ (i + 1)
+pub negation-next : (value : Node → Bool) (ys done : List Node) (i : ℕ) (e b d r : Node) → i < length ys
+    → length done ≡ i → unsigned (map value done) + unsigned (map value (take i ys)) ≡ bit (value b) * 2 ^ i
+    → bit (value d) + bit (value (get_or ys i e)) + bit (value b) ≡ 2 * bit (value r)
+    → unsigned (map value (done ++ d ∷ [])) + unsigned (map value (take (i + 1) ys)) ≡ bit (value r) * 2 ^ (i + 1)
 negation-next value ys done i e b d r k size j step =
     let p = 2 ^ i in
     let double : p + p ≡ 2 ^ (i + 1) = omega (arith, pow-suc 2 i, ap (λ n. 2 ^ n) (add-one i)) in

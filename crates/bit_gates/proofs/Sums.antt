@@ -43,7 +43,8 @@ digit-whole : (b : Bool) → whole (b ∷ false ∷ []) ≡ pos (if b then 1 els
 digit-whole true = omega (arith, ints)
 digit-whole false = omega (arith, ints)
 
-pub digit-value : (value : Node → Bool) (nodes : List Node) (n none : Node) → nodes ≡ n ∷ none ∷ [] → value none ≡ false → whole (map value nodes) ≡ pos (if value n then 1 else 0)
+pub digit-value : (value : Node → Bool) (nodes : List Node) (n none : Node) → nodes ≡ n ∷ none ∷ []
+    → value none ≡ false → whole (map value nodes) ≡ pos (if value n then 1 else 0)
 digit-value value nodes n none e f = ap (λ ns. whole (map value ns)) e ∙ ap (λ b. whole (value n ∷ b ∷ [])) f ∙ digit-whole (value n)
 
 pub digit-within : (b : Bool) (z : ℤ) → z ≡ pos (if b then 1 else 0) → unsigned_abs z ≤ 1
@@ -69,23 +70,30 @@ no-whole ns =
     let e = no-digits ns in
     omega (arith, ints, e, worth)
 
-pub masked-value : (value : Node → Bool) (t : Bool) (ns done : List Node) → map value done ≡ map (λ n. t && value n) ns → whole (map value done) ≡ (if t then whole (map value ns) else pos 0)
+pub masked-value : (value : Node → Bool) (t : Bool) (ns done : List Node) → map value done ≡ map (λ n. t && value n) ns
+    → whole (map value done) ≡ (if t then whole (map value ns) else pos 0)
 masked-value value true ns done e = ap whole e
 masked-value value false ns done e = ap whole e ∙ no-whole ns
 
-pub masked-within : (t : Bool) (z x : ℤ) (m : ℕ) → z ≡ (if t then x else pos 0) → unsigned_abs x ≤ m → unsigned_abs z ≤ m
+pub masked-within : (t : Bool) (z x : ℤ) (m : ℕ) → z ≡ (if t then x else pos 0) → unsigned_abs x ≤ m
+    → unsigned_abs z ≤ m
 masked-within true z x m e h = omega (arith, ap unsigned_abs e, h)
 masked-within false z x m e h = omega (arith, ap unsigned_abs e)
 
-pub masked-next : (value : Node → Bool) (t : Bool) (ns done : List Node) (i : ℕ) (d r : Node) → i < length ns → map value done ≡ map (λ n. t && value n) (take i ns) → value r ≡ (t && value (get_or ns i d)) → map value (done ++ r ∷ []) ≡ map (λ n. t && value n) (take (i + 1) ns)
+pub masked-next : (value : Node → Bool) (t : Bool) (ns done : List Node) (i : ℕ) (d r : Node) → i < length ns
+    → map value done ≡ map (λ n. t && value n) (take i ns) → value r ≡ (t && value (get_or ns i d))
+    → map value (done ++ r ∷ []) ≡ map (λ n. t && value n) (take (i + 1) ns)
 masked-next value t ns done i d r h e f =
     map_push value done r ∙ ap (λ bs. bs ++ value r ∷ []) e ∙ ap (λ b. map (λ n. t && value n) (take i ns) ++ b ∷ []) f ∙ sym (map_more (λ n. t && value n) ns i d h)
 
-counted-push : (value : Node → Bool) (ns : List Node) (n : Node) → counted value (ns ++ n ∷ []) ≡ counted value ns + (if value n then 1 else 0)
+counted-push : (value : Node → Bool) (ns : List Node) (n : Node)
+    → counted value (ns ++ n ∷ []) ≡ counted value ns + (if value n then 1 else 0)
 counted-push value [] n = omega arith
 counted-push value (m ∷ ns) n = omega (arith, counted-push value ns n)
 
-pub counted-next : (value : Node → Bool) (ns : List Node) (i : ℕ) (d : Node) (z x y : ℤ) → i < length ns → x ≡ pos (counted value (take i ns)) → y ≡ pos (if value (get_or ns i d) then 1 else 0) → z ≡ x +ℤ y → z ≡ pos (counted value (take (i + 1) ns))
+pub counted-next : (value : Node → Bool) (ns : List Node) (i : ℕ) (d : Node) (z x y : ℤ) → i < length ns
+    → x ≡ pos (counted value (take i ns)) → y ≡ pos (if value (get_or ns i d) then 1 else 0) → z ≡ x +ℤ y
+    → z ≡ pos (counted value (take (i + 1) ns))
 counted-next value ns i d z x y h e f g =
     g ∙ ap (λ a. a +ℤ y) e ∙ ap (λ b. pos (counted value (take i ns)) +ℤ b) f
     ∙ ap pos (sym (counted-push value (take i ns) (get_or ns i d)) ∙ ap (counted value) (sym (take_more ns i d h)))
@@ -100,11 +108,14 @@ turn w i n h =
 pub turn_more : (w i : ℕ) → 5 * w * (i + 1) ≡ 5 * w * i + 5 * w
 turn_more w i = grind arith
 
-total-push : (value : Node → Bool) (ps : List (Node × Bits)) (p : Node × Bits) → total value (ps ++ p ∷ []) ≡ total value ps +ℤ (if value p.0 then number value p.1 else pos 0)
+total-push : (value : Node → Bool) (ps : List (Node × Bits)) (p : Node × Bits)
+    → total value (ps ++ p ∷ []) ≡ total value ps +ℤ (if value p.0 then number value p.1 else pos 0)
 total-push value [] p = omega (arith, ints)
 total-push value (q ∷ ps) p = omega (arith, ints, total-push value ps p)
 
-pub total-next : (value : Node → Bool) (ps : List (Node × Bits)) (i : ℕ) (d : Node × Bits) (z x y : ℤ) → i < length ps → x ≡ total value (take i ps) → y ≡ (if value (get_or ps i d).0 then number value (get_or ps i d).1 else pos 0) → z ≡ x +ℤ y → z ≡ total value (take (i + 1) ps)
+pub total-next : (value : Node → Bool) (ps : List (Node × Bits)) (i : ℕ) (d : Node × Bits) (z x y : ℤ) → i < length ps
+    → x ≡ total value (take i ps) → y ≡ (if value (get_or ps i d).0 then number value (get_or ps i d).1 else pos 0)
+    → z ≡ x +ℤ y → z ≡ total value (take (i + 1) ps)
 total-next value ps i d z x y h e f g =
     g ∙ ap (λ a. a +ℤ y) e ∙ ap (λ b. total value (take i ps) +ℤ b) f
     ∙ sym (total-push value (take i ps) (get_or ps i d)) ∙ ap (total value) (sym (take_more ps i d h))
@@ -120,13 +131,16 @@ widths-append (p ∷ ps) qs = omega (arith, widths-append ps qs)
 pub bounds-push : (ps : List (Node × Bits)) (p : Node × Bits) → bounds (ps ++ p ∷ []) ≡ bounds ps + p.1.most
 bounds-push ps p = omega (arith, bounds-append ps (p ∷ []))
 
-pub widths-push : (ps : List (Node × Bits)) (p : Node × Bits) → widths (ps ++ p ∷ []) ≡ widths ps + length p.1.nodes.items
+pub widths-push : (ps : List (Node × Bits)) (p : Node × Bits)
+    → widths (ps ++ p ∷ []) ≡ widths ps + length p.1.nodes.items
 widths-push ps p = omega (arith, widths-append ps (p ∷ []))
 
-pub bounds-next : (ps : List (Node × Bits)) (i : ℕ) (d : Node × Bits) → i < length ps → bounds (take (i + 1) ps) ≡ bounds (take i ps) + (get_or ps i d).1.most
+pub bounds-next : (ps : List (Node × Bits)) (i : ℕ) (d : Node × Bits) → i < length ps
+    → bounds (take (i + 1) ps) ≡ bounds (take i ps) + (get_or ps i d).1.most
 bounds-next ps i d h = ap bounds (take_more ps i d h) ∙ bounds-append (take i ps) (get_or ps i d ∷ []) ∙ omega arith
 
-pub widths-next : (ps : List (Node × Bits)) (i : ℕ) (d : Node × Bits) → i < length ps → widths (take (i + 1) ps) ≡ widths (take i ps) + length (get_or ps i d).1.nodes.items
+pub widths-next : (ps : List (Node × Bits)) (i : ℕ) (d : Node × Bits) → i < length ps
+    → widths (take (i + 1) ps) ≡ widths (take i ps) + length (get_or ps i d).1.nodes.items
 widths-next ps i d h = ap widths (take_more ps i d h) ∙ widths-append (take i ps) (get_or ps i d ∷ []) ∙ omega arith
 
 pub bounds-front : (ps : List (Node × Bits)) (i : ℕ) → bounds (take i ps) ≤ bounds ps

@@ -30,18 +30,22 @@ pub record Halves (h u : ℕ) (s : Bool) (z : ℤ) : Type 0 where
   pub high : u < h + bit s * h
   pub is : z ≡ pos u -ℤ pos (bit s * (h + h))
 
-halves_behind : (b s : Bool) (h k u : ℕ) → k ≡ h + h → (bit s * h ≤ u) × (u < h + bit s * h) → (bit s * k ≤ bit b + 2 * u) × (bit b + 2 * u < k + bit s * k)
-halves_behind true true h k u e p = (omega (arith, p.0), omega (arith, p.1))
-halves_behind true false h k u e p = (omega (arith, p.0), omega (arith, p.1))
-halves_behind false true h k u e p = (omega (arith, p.0), omega (arith, p.1))
-halves_behind false false h k u e p = (omega (arith, p.0), omega (arith, p.1))
+halves_next : (b s : Bool) (h k u : ℕ) → k ≡ h + h → (bit s * h ≤ u) × (u < h + bit s * h)
+    → (bit s * k ≤ bit b + 2 * u) × (bit b + 2 * u < k + bit s * k)
+halves_next true true h k u e p = (omega (arith, p.0), omega (arith, p.1))
+halves_next true false h k u e p = (omega (arith, p.0), omega (arith, p.1))
+halves_next false true h k u e p = (omega (arith, p.0), omega (arith, p.1))
+halves_next false false h k u e p = (omega (arith, p.0), omega (arith, p.1))
 
-unsigned-halves : (b : Bool) (bits : List Bool) → (bit (sign_after b bits) * 2 ^ length bits ≤ unsigned (b ∷ bits)) × (unsigned (b ∷ bits) < 2 ^ length bits + bit (sign_after b bits) * 2 ^ length bits)
+unsigned-halves : (b : Bool) (bits : List Bool)
+    → (bit (sign_after b bits) * 2 ^ length bits ≤ unsigned (b ∷ bits))
+    × (unsigned (b ∷ bits) < 2 ^ length bits + bit (sign_after b bits) * 2 ^ length bits)
 unsigned-halves true [] = (omega arith, omega arith)
 unsigned-halves false [] = (omega arith, omega arith)
-unsigned-halves b (c ∷ bits) = halves_behind b (sign_after c bits) (2 ^ length bits) (2 ^ suc (length bits)) (unsigned (c ∷ bits)) (omega (arith, pow-suc 2 (length bits))) (unsigned-halves c bits)
+unsigned-halves b (c ∷ bits) = halves_next b (sign_after c bits) (2 ^ length bits) (2 ^ suc (length bits)) (unsigned (c ∷ bits)) (omega (arith, pow-suc 2 (length bits))) (unsigned-halves c bits)
 
-pub halves : (b : Bool) (bits : List Bool) → Halves (2 ^ length bits) (unsigned (b ∷ bits)) (sign_after b bits) (whole (b ∷ bits))
+pub halves : (b : Bool) (bits : List Bool)
+    → Halves (2 ^ length bits) (unsigned (b ∷ bits)) (sign_after b bits) (whole (b ∷ bits))
 halves b bits =
     let h = unsigned-halves b bits in
     let double : 2 ^ suc (length bits) ≡ 2 ^ length bits + 2 ^ length bits = omega (arith, pow-suc 2 (length bits)) in
@@ -53,7 +57,8 @@ pub record InRange (h : ℕ) (z : ℤ) : Type 0 where
   pub high : z <ℤ pos h
 
 -- a sum of digits that are as wide as the result
-sum_cases : (h u v s : ℕ) (x y z c : Bool) (a b r : ℤ) → Halves h u x a → Halves h v y b → Halves h s z r → s + bit c * (h + h) ≡ u + v → InRange h (a +ℤ b) → r ≡ a +ℤ b
+sum_cases : (h u v s : ℕ) (x y z c : Bool) (a b r : ℤ) → Halves h u x a → Halves h v y b → Halves h s z r
+    → s + bit c * (h + h) ≡ u + v → InRange h (a +ℤ b) → r ≡ a +ℤ b
 sum_cases h u v s true true true true a b r p q t e f = omega (arith, ints)
 sum_cases h u v s true true true false a b r p q t e f = omega (arith, ints)
 sum_cases h u v s true true false true a b r p q t e f = omega (arith, ints)
@@ -71,7 +76,8 @@ sum_cases h u v s false false true false a b r p q t e f = omega (arith, ints)
 sum_cases h u v s false false false true a b r p q t e f = omega (arith, ints)
 sum_cases h u v s false false false false a b r p q t e f = omega (arith, ints)
 
-difference_cases : (h u v s : ℕ) (x y z c : Bool) (a b r : ℤ) → Halves h u x a → Halves h v y b → Halves h s z r → s + v ≡ u + bit c * (h + h) → InRange h (a -ℤ b) → r ≡ a -ℤ b
+difference_cases : (h u v s : ℕ) (x y z c : Bool) (a b r : ℤ) → Halves h u x a → Halves h v y b → Halves h s z r
+    → s + v ≡ u + bit c * (h + h) → InRange h (a -ℤ b) → r ≡ a -ℤ b
 difference_cases h u v s true true true true a b r p q t e f = omega (arith, ints)
 difference_cases h u v s true true true false a b r p q t e f = omega (arith, ints)
 difference_cases h u v s true true false true a b r p q t e f = omega (arith, ints)
@@ -89,7 +95,8 @@ difference_cases h u v s false false true false a b r p q t e f = omega (arith, 
 difference_cases h u v s false false false true a b r p q t e f = omega (arith, ints)
 difference_cases h u v s false false false false a b r p q t e f = omega (arith, ints)
 
-pub halves_of : (bits : List Bool) (n : ℕ) → length bits ≡ suc n → Halves (2 ^ n) (unsigned bits) (sign bits) (whole bits)
+pub halves_of : (bits : List Bool) (n : ℕ) → length bits ≡ suc n
+    → Halves (2 ^ n) (unsigned bits) (sign bits) (whole bits)
 halves_of [] n size = absurd (omega arith)
 halves_of (b ∷ bits) n size =
     let e : length bits ≡ n = omega arith in
@@ -98,17 +105,21 @@ halves_of (b ∷ bits) n size =
 pub twice : (n : ℕ) → 2 ^ suc n ≡ 2 ^ n + 2 ^ n
 twice n = omega (arith, pow-suc 2 n)
 
-pub sum-whole : (xs ys ds : List Bool) (c : Bool) (n : ℕ) → length xs ≡ suc n → length ys ≡ suc n → length ds ≡ suc n → unsigned ds + bit c * 2 ^ suc n ≡ unsigned xs + unsigned ys → InRange (2 ^ n) (whole xs +ℤ whole ys) → whole ds ≡ whole xs +ℤ whole ys
+pub sum-whole : (xs ys ds : List Bool) (c : Bool) (n : ℕ) → length xs ≡ suc n → length ys ≡ suc n → length ds ≡ suc n
+    → unsigned ds + bit c * 2 ^ suc n ≡ unsigned xs + unsigned ys → InRange (2 ^ n) (whole xs +ℤ whole ys)
+    → whole ds ≡ whole xs +ℤ whole ys
 sum-whole xs ys ds c n h k l e f =
     let balance : unsigned ds + bit c * (2 ^ n + 2 ^ n) ≡ unsigned xs + unsigned ys = ap (λ p. unsigned ds + bit c * p) (sym (twice n)) ∙ e in
     sum_cases (2 ^ n) _ _ _ (sign xs) (sign ys) (sign ds) c _ _ _ (halves_of xs n h) (halves_of ys n k) (halves_of ds n l) balance f
 
-pub difference-whole : (xs ys ds : List Bool) (c : Bool) (n : ℕ) → length xs ≡ suc n → length ys ≡ suc n → length ds ≡ suc n → unsigned ds + unsigned ys ≡ unsigned xs + bit c * 2 ^ suc n → InRange (2 ^ n) (whole xs -ℤ whole ys) → whole ds ≡ whole xs -ℤ whole ys
+pub difference-whole : (xs ys ds : List Bool) (c : Bool) (n : ℕ) → length xs ≡ suc n → length ys ≡ suc n
+    → length ds ≡ suc n → unsigned ds + unsigned ys ≡ unsigned xs + bit c * 2 ^ suc n
+    → InRange (2 ^ n) (whole xs -ℤ whole ys) → whole ds ≡ whole xs -ℤ whole ys
 difference-whole xs ys ds c n h k l e f =
     let balance : unsigned ds + unsigned ys ≡ unsigned xs + bit c * (2 ^ n + 2 ^ n) = e ∙ ap (λ p. unsigned xs + bit c * p) (twice n) in
     difference_cases (2 ^ n) _ _ _ (sign xs) (sign ys) (sign ds) c _ _ _ (halves_of xs n h) (halves_of ys n k) (halves_of ds n l) balance f
 
--- digits behind the sign that repeat it change nothing
+-- digits after the sign that repeat it change nothing
 wider : (u p : ℕ) (s : Bool) → pos (u + bit s * p) -ℤ pos (bit s * (p + p)) ≡ pos u -ℤ pos (bit s * p)
 wider u p true = omega (arith, ints)
 wider u p false = omega (arith, ints)
@@ -128,13 +139,16 @@ whole-widened bits s (suc k) e =
     ap whole (sym (append_assoc bits (s ∷ []) (replicate k s))) ∙ whole-widened (bits ++ s ∷ []) s k (sign-push bits s) ∙ whole-push bits s e
 
 -- the lowest digit and the others
-behind : (b s : Bool) (u p : ℕ) → pos (bit b + 2 * u) -ℤ pos (bit s * (p + p)) ≡ pos (bit b) +ℤ ((pos u -ℤ pos (bit s * p)) +ℤ (pos u -ℤ pos (bit s * p)))
-behind b true u p = omega (arith, ints)
-behind b false u p = omega (arith, ints)
+double_next : (b s : Bool) (u p : ℕ)
+    → pos (bit b + 2 * u) -ℤ pos (bit s * (p + p))
+    ≡ pos (bit b) +ℤ ((pos u -ℤ pos (bit s * p)) +ℤ (pos u -ℤ pos (bit s * p)))
+double_next b true u p = omega (arith, ints)
+double_next b false u p = omega (arith, ints)
 
-pub whole-cons : (b c : Bool) (bits : List Bool) → whole (b ∷ c ∷ bits) ≡ pos (bit b) +ℤ (whole (c ∷ bits) +ℤ whole (c ∷ bits))
+pub whole-cons : (b c : Bool) (bits : List Bool)
+    → whole (b ∷ c ∷ bits) ≡ pos (bit b) +ℤ (whole (c ∷ bits) +ℤ whole (c ∷ bits))
 whole-cons b c bits =
-    ap (λ p. pos (unsigned (b ∷ c ∷ bits)) -ℤ pos (bit (sign_after c bits) * p)) (twice (suc (length bits))) ∙ behind b (sign_after c bits) (unsigned (c ∷ bits)) (2 ^ suc (length bits))
+    ap (λ p. pos (unsigned (b ∷ c ∷ bits)) -ℤ pos (bit (sign_after c bits) * p)) (twice (suc (length bits))) ∙ double_next b (sign_after c bits) (unsigned (c ∷ bits)) (2 ^ suc (length bits))
 
 one-digit : (b : Bool) (z : ℤ) → InRange 1 (pos (bit b) +ℤ (z +ℤ z)) → whole (b ∷ []) ≡ pos (bit b) +ℤ (z +ℤ z)
 one-digit true z f = omega (arith, ints)
@@ -145,7 +159,8 @@ half-range true h k z e f = record { low = omega (arith, ints, f.low, f.high); h
 half-range false h k z e f = record { low = omega (arith, ints, f.low, f.high); high = omega (arith, ints, f.low, f.high) }
 
 -- digits that the number doesn't need can be cut off
-pub whole-cut : (n : ℕ) (bits : List Bool) → n < length bits → InRange (2 ^ n) (whole bits) → whole (take (suc n) bits) ≡ whole bits
+pub whole-cut : (n : ℕ) (bits : List Bool) → n < length bits → InRange (2 ^ n) (whole bits)
+    → whole (take (suc n) bits) ≡ whole bits
 whole-cut n [] h f = absurd (omega arith)
 whole-cut zero (b ∷ []) h f = refl
 whole-cut zero (b ∷ c ∷ bits) h f = one-digit b (whole (c ∷ bits)) (subst (InRange 1) (whole-cons b c bits) f) ∙ sym (whole-cons b c bits)
@@ -154,7 +169,7 @@ whole-cut (suc n) (b ∷ c ∷ bits) h f =
     let rest = whole-cut n (c ∷ bits) (omega arith) (half-range b (2 ^ n) (2 ^ suc n) (whole (c ∷ bits)) (twice n) (subst (InRange (2 ^ suc n)) (whole-cons b c bits) f)) in
     whole-cons b c (take n bits) ∙ ap (λ z. pos (bit b) +ℤ (z +ℤ z)) rest ∙ sym (whole-cons b c bits)
 
--- the last digit stands behind the others
+-- the last digit stands after the others
 pub front-and-sign : (bits : List Bool) (n : ℕ) → length bits ≡ suc n → bits ≡ take n bits ++ sign bits ∷ []
 front-and-sign [] n size = absurd (omega arith)
 front-and-sign (b ∷ []) zero size = refl
@@ -167,7 +182,8 @@ narrower u p true = omega (arith, ints)
 narrower u p false = omega (arith, ints)
 
 -- a number by its lower digits and its sign
-pub whole-split : (bits : List Bool) (n : ℕ) → length bits ≡ suc n → whole bits ≡ pos (unsigned (take n bits)) -ℤ pos (bit (sign bits) * 2 ^ n)
+pub whole-split : (bits : List Bool) (n : ℕ) → length bits ≡ suc n
+    → whole bits ≡ pos (unsigned (take n bits)) -ℤ pos (bit (sign bits) * 2 ^ n)
 whole-split bits n size =
     let e = front-and-sign bits n size in
     let low : length (take n bits) ≡ n = length-take-le n bits (omega arith) in
@@ -188,7 +204,8 @@ eq-false : (a b : ℤ) → a ≢ b → int_eq a b ≡ false
 eq-false a b h = false_from_ne_true (int_eq a b) (λ t. h ((Decides-int_eq a b).0 t))
 
 -- the order of two numbers, by their signs and a borrow of the lower digits
-pub order-cases : (h u v s : ℕ) (x y c : Bool) → u < h → v < h → s < h → s + v ≡ u + bit c * h → (if differ x y then x else c) ≡ int_lt (pos u -ℤ pos (bit x * h)) (pos v -ℤ pos (bit y * h))
+pub order-cases : (h u v s : ℕ) (x y c : Bool) → u < h → v < h → s < h → s + v ≡ u + bit c * h
+    → (if differ x y then x else c) ≡ int_lt (pos u -ℤ pos (bit x * h)) (pos v -ℤ pos (bit y * h))
 order-cases h u v s true true true i j k e = sym (lt-true (pos u -ℤ pos (bit true * h)) (pos v -ℤ pos (bit true * h)) (omega (arith, ints)))
 order-cases h u v s true true false i j k e = sym (lt-false (pos u -ℤ pos (bit true * h)) (pos v -ℤ pos (bit true * h)) (omega (arith, ints)))
 order-cases h u v s false false true i j k e = sym (lt-true (pos u -ℤ pos (bit false * h)) (pos v -ℤ pos (bit false * h)) (omega (arith, ints)))
@@ -209,14 +226,16 @@ equal-back h u v false false a b p q e = omega (arith, ints)
 equal-back h u v true false a b p q e = omega (arith, ints)
 equal-back h u v false true a b p q e = omega (arith, ints)
 
-pub equality : (xs ys : List Bool) (n : ℕ) (d r : Bool) → length xs ≡ suc n → length ys ≡ suc n → Differs d (unsigned xs) (unsigned ys) → r ≡ not d → r ≡ int_eq (whole xs) (whole ys)
+pub equality : (xs ys : List Bool) (n : ℕ) (d r : Bool) → length xs ≡ suc n → length ys ≡ suc n
+    → Differs d (unsigned xs) (unsigned ys) → r ≡ not d → r ≡ int_eq (whole xs) (whole ys)
 equality xs ys n true r h k j e =
     e ∙ sym (eq-false (whole xs) (whole ys) (λ f. j.apart refl (equal-back (2 ^ n) _ _ (sign xs) (sign ys) _ _ (halves_of xs n h) (halves_of ys n k) f)))
 equality xs ys n false r h k j e =
     e ∙ sym ((Decides-int_eq (whole xs) (whole ys)).1 (equal-cases (2 ^ n) _ _ (sign xs) (sign ys) _ _ (halves_of xs n h) (halves_of ys n k) (j.same refl)))
 
 -- 0 less a number
-pub negation-whole : (ys ds : List Bool) (c : Bool) (n : ℕ) → length ys ≡ suc n → length ds ≡ suc n → unsigned ds + unsigned ys ≡ bit c * 2 ^ suc n → InRange (2 ^ n) (pos 0 -ℤ whole ys) → whole ds ≡ pos 0 -ℤ whole ys
+pub negation-whole : (ys ds : List Bool) (c : Bool) (n : ℕ) → length ys ≡ suc n → length ds ≡ suc n
+    → unsigned ds + unsigned ys ≡ bit c * 2 ^ suc n → InRange (2 ^ n) (pos 0 -ℤ whole ys) → whole ds ≡ pos 0 -ℤ whole ys
 negation-whole ys ds c n k l e f =
     let balance : unsigned ds + unsigned ys ≡ 0 + bit c * (2 ^ n + 2 ^ n) = omega (arith, e, ap (λ p. bit c * p) (twice n)) in
     let none : Halves (2 ^ n) 0 false (pos 0) = record { low = omega arith; high = omega (arith, pow_pos n); is = omega (arith, ints) } in
@@ -231,7 +250,9 @@ negative-cases h m u true z p b e = omega (arith, ints)
 negative-cases h m u false z p b e = omega (arith, ints)
 
 -- the number whose digits are those of n, or of n and a power of two that is above the width
-pub constant-whole : (n : ℤ) (bits : List Bool) (k most : ℕ) → length bits ≡ suc k → unsigned_abs n ≡ most → most < 2 ^ k → (pos 0 ≤ℤ n → unsigned bits ≡ most) → (n <ℤ pos 0 → unsigned bits + most ≡ 2 ^ suc k) → whole bits ≡ n
+pub constant-whole : (n : ℤ) (bits : List Bool) (k most : ℕ) → length bits ≡ suc k → unsigned_abs n ≡ most
+    → most < 2 ^ k → (pos 0 ≤ℤ n → unsigned bits ≡ most) → (n <ℤ pos 0 → unsigned bits + most ≡ 2 ^ suc k)
+    → whole bits ≡ n
 constant-whole (pos m) bits k most size abs below plain turned =
     let e : unsigned bits ≡ most = plain (omega (arith, ints)) in
     positive-cases (2 ^ k) m (unsigned bits) (sign bits) (whole bits) (halves_of bits k size) (omega arith) (e ∙ sym abs)

@@ -66,11 +66,13 @@ abs-sub x y = grind arith
 last-within : (nodes : List Node) → 0 < length nodes → length nodes - 1 < length nodes
 last-within nodes h = omega arith
 
-sign_last : (value : Node → Bool) (n : Node) (nodes : List Node) (d : Node) → sign_after (value n) (map value nodes) ≡ value (get_or (n ∷ nodes) (length nodes) d)
+sign_last : (value : Node → Bool) (n : Node) (nodes : List Node) (d : Node)
+    → sign_after (value n) (map value nodes) ≡ value (get_or (n ∷ nodes) (length nodes) d)
 sign_last value n [] d = refl
 sign_last value n (m ∷ nodes) d = sign_last value m nodes d
 
-pub sign-last : (value : Node → Bool) (nodes : List Node) → 0 < length nodes → sign (map value nodes) ≡ value (last_of nodes)
+pub sign-last : (value : Node → Bool) (nodes : List Node) → 0 < length nodes
+    → sign (map value nodes) ≡ value (last_of nodes)
 sign-last value [] h = absurd (omega arith)
 sign-last value (n ∷ nodes) h =
     let e : length nodes ≡ suc (length nodes) - 1 = omega arith in
@@ -80,7 +82,8 @@ pub length-resized : (nodes : List Node) (width : ℕ) → length (resized_to no
 length-resized nodes width =
     omega (arith, length-append (take width nodes) (replicate (width - length nodes) (last_of nodes)), length-take width nodes, length-replicate (width - length nodes) (last_of nodes))
 
-pub nodes-resized : (net : List Gate) (nodes : List Node) (width : ℕ) → 0 < length nodes → All (IsNode net) nodes → All (IsNode net) (resized_to nodes width)
+pub nodes-resized : (net : List Gate) (nodes : List Node) (width : ℕ) → 0 < length nodes → All (IsNode net) nodes
+    → All (IsNode net) (resized_to nodes width)
 nodes-resized net nodes width h all =
     All-append (IsNode net) (take width nodes) (replicate (width - length nodes) (last_of nodes)) (All-take (IsNode net) width nodes all)
     (All-replicate (IsNode net) (width - length nodes) (last_of nodes) (all (length nodes - 1) (record { place = 0 }) (last-within nodes h)))
@@ -90,7 +93,8 @@ map-replicate value zero n = refl
 map-replicate value (suc k) n = ap (λ bs. value n ∷ bs) (map-replicate value k n)
 
 -- nodes mean the same number at each width at which the number fits
-pub whole-resized : (value : Node → Bool) (nodes : List Node) (n : ℕ) → 0 < length nodes → InRange (2 ^ n) (whole (map value nodes)) → whole (map value (resized_to nodes (suc n))) ≡ whole (map value nodes)
+pub whole-resized : (value : Node → Bool) (nodes : List Node) (n : ℕ) → 0 < length nodes
+    → InRange (2 ^ n) (whole (map value nodes)) → whole (map value (resized_to nodes (suc n))) ≡ whole (map value nodes)
 whole-resized value nodes n h f =
     let more = suc n - length nodes in
     let bits = map value nodes in

@@ -41,7 +41,8 @@ pub(crate) fn at_width(net: &Net, a: &Bits, width: usize) -> Result<Vec<Node>, A
     requires wide { width_of a.now.most ≤ width }
     ensures width { IfOk result (λ nodes. length nodes.items ≡ width) }
     ensures nodes { IfOk result (λ nodes. All (IsNode net.now) nodes.items) }
-    ensures value { IfOk result (λ nodes. Always net.now (λ value. whole (map value nodes.items) ≡ number value a.now)) }
+    ensures value { IfOk result
+        (λ nodes. Always net.now (λ value. whole (map value nodes.items) ≡ number value a.now)) }
 {
     resized(net.allocator(), a.nodes.as_slice(), width)
 }

@@ -23,7 +23,7 @@ pub(crate) struct Digit {
 
 // The digits of a result, and what the last one carries or borrows.
 #[derive(Drop)]
-pub(crate) struct Digits {
+pub(crate) struct Joined {
     pub(crate) values: Vec<Node>,
     pub(crate) carry: Node,
 }
@@ -36,7 +36,8 @@ pub(crate) fn choose(net: &mut Net, test: Node, yes: Node, no: Node) -> Result<N
     requires no { IsNode net.old no }
     ensures grows { Grows 3 net.old net.new }
     ensures node { IfOk result (λ n. IsNode net.new n) }
-    ensures value { IfOk result (λ n. Always net.new (λ value. value n ≡ (if value test then value yes else value no))) }
+    ensures value { IfOk result
+        (λ n. Always net.new (λ value. value n ≡ (if value test then value yes else value no))) }
 {
     let differ = net.xor(yes, no)?;
     let passed = net.and(test, differ)?;
@@ -76,7 +77,7 @@ pub(crate) fn join(
     rule: Rule,
     xs: &[Node],
     ys: &[Node],
-) -> Result<Digits, AllocError>
+) -> Result<Joined, AllocError>
     requires same { length ys.now ≡ length xs.now }
     requires xs { All (IsNode net.old) xs.now }
     requires ys { All (IsNode net.old) ys.now }
@@ -96,5 +97,5 @@ pub(crate) fn join(
         values.push(digit.value)?;
         carry = digit.carry;
     }
-    Ok(Digits { values, carry })
+    Ok(Joined { values, carry })
 }

@@ -21,8 +21,10 @@ pub fn times_constant(net: &mut Net, k: i64, a: &Bits) -> Result<Bits, AllocErro
     requires bits { IsBits net.old a.now }
     requires factor { unsigned_abs k ≤ 2 ^ 31 }
     requires small { unsigned_abs k * a.now.most ≤ 2 ^ 88 }
-    requires room { nodes_of net.old + (160 * (length a.now.nodes.items + 2) + 3 * width_of (unsigned_abs k * a.now.most)) ≤ 2 ^ 28 }
-    ensures grows { Grows (160 * (length a.now.nodes.items + 2) + 3 * width_of (unsigned_abs k * a.now.most)) net.old net.new }
+    requires room { nodes_of net.old +
+        (160 * (length a.now.nodes.items + 2) + 3 * width_of (unsigned_abs k * a.now.most)) ≤ 2 ^ 28 }
+    ensures grows { Grows
+        (160 * (length a.now.nodes.items + 2) + 3 * width_of (unsigned_abs k * a.now.most)) net.old net.new }
     ensures bits { IfOk result (λ product. IsBits net.new product) }
     ensures most { IfOk result (λ product. product.most ≡ unsigned_abs k * a.now.most) }
     ensures value { IfOk result (λ product. Always net.new (λ value.
@@ -97,7 +99,8 @@ fn sum_if(net: &mut Net, wanted: bool, xs: &[Node], ys: &[Node]) -> Result<Vec<N
     ensures width { IfOk result (λ digits. length digits.items ≡ length xs.now + 1) }
     ensures nodes { IfOk result (λ digits. All (IsNode net.new) digits.items) }
     ensures value { IfOk result (λ digits. Always net.new (λ value.
-        whole (map value digits.items) ≡ whole (map value xs.now) +ℤ (if wanted then whole (map value ys.now) else pos 0))) }
+        whole (map value digits.items)
+        ≡ whole (map value xs.now) +ℤ (if wanted then whole (map value ys.now) else pos 0))) }
 {
     let width = xs.len() + 1;
     let first = resized(net.allocator(), xs, width)?;

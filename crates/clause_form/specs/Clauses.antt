@@ -20,7 +20,7 @@ is_distinct (l ∷ c) = not (has l c) && is_distinct c
 abbrev pub is_clause : List ℤ → Bool
 is_clause c = list_all is_literal c && is_distinct c
 
--- the clause with a literal behind the others, unless it has it
+-- the clause with a literal after the others, unless it has it
 abbrev pub inserted : ℤ → List ℤ → List ℤ
 inserted l c = if has l c then c else c ++ l ∷ []
 
@@ -32,7 +32,7 @@ IsFull c = (l : ℤ) × (has l c ≡ true)
 abbrev pub NamesWithin : ℕ → List ℤ → Type 0
 NamesWithin n c = (l : ℤ) → has l c ≡ true → unsigned_abs l ≤ n
 
--- whether an assignment makes the literal true; 0 is no literal
+-- whether an assignment makes the literal true; 0 isn't a literal
 abbrev pub value : (ℕ → Bool) → ℤ → Bool
 value a (pos zero) = false
 value a (pos (suc n)) = a (suc n)

@@ -46,7 +46,7 @@ abbrev pub option_cases : {A B : Type 0} → Option A → B → (A → B) → B
 option_cases None d f = d
 option_cases (Some x) d f = f x
 
--- the clauses of the lines, behind those made before, or the number of the first line that makes none
+-- the clauses of the lines, after those made before, or the number of the first line that makes none
 abbrev pub derived_after : List (List ℤ) → List (List ℤ) → List Line → Result (List (List ℤ)) ℕ
 derived_after clauses made [] = Ok made
 derived_after clauses made (line ∷ log) = option_cases (clause_of (clauses ++ made) line) (Err (length made + 1)) (λ c. derived_after clauses (made ++ c ∷ []) log)
@@ -94,7 +94,7 @@ pub record Adds (clauses : List (List ℤ)) (c : List ℤ) : Type 0 where
 abbrev pub EachAdds : List (List ℤ) → List (List ℤ) → Type 0
 EachAdds clauses made = (k : ℕ) → k < length made → Adds (clauses ++ take k made) (slice_index_or made k [])
 
--- the derivation has so many lines, and each of their clauses adds to those before it
+-- the derivation has that many lines, and each of their clauses adds to those before it
 pub record Spends (clauses : List (List ℤ)) (log : List Line) (count : ℕ) : Type 0 where
   pub made : List (List ℤ)
   pub derived_so : derived clauses log ≡ Ok made

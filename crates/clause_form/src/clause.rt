@@ -44,7 +44,7 @@ impl Clause {
         }
     }
 
-    /// Adds a literal behind the others, unless the clause has it. After an error the clause is as before.
+    /// Adds a literal after the others, unless the clause has it. After an error the clause is as before.
     pub fn insert(&mut self, literal: i32) -> Result<(), AllocError>
         requires { IsTrue (is_literal literal) }
         ensures ok { OnOk result (self.new ≡ inserted literal self.old) }

@@ -41,7 +41,7 @@ impl Clauses {
         true
     }
 
-    /// Adds a clause behind the others. After an error the clauses are as before.
+    /// Adds a clause after the others. After an error the clauses are as before.
     pub fn push(&mut self, clause: Clause) -> Result<(), AllocError>
         requires named { NamesWithin self.old.variables clause }
         requires few { vec_len self.old.clauses + 1 < 2 ^ 31 }

@@ -1,5 +1,5 @@
 /// One resolution step: the clause so far loses the literal `pivot`, and gains the clause with the number `with`
-/// but for the pivot's negation. Clauses are numbered from 1, those of the lines behind the given ones.
+/// but for the pivot's negation. Clauses are numbered from 1, those of the lines after the given ones.
 #[derive(Clone, Copy, Debug)]
 pub struct Cut {
     pub pivot: i32,

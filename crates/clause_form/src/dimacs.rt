@@ -6,7 +6,7 @@ use crate::{Clause, Clauses};
 use itoa::Buffer;
 use pb_io::{PutError, Sink, put_all};
 
-// The bytes of the longest literal, -2147483648, and the space behind it.
+// The bytes of the longest literal, -2147483648, and the space after it.
 const LONGEST_LITERAL: usize = 12;
 
 /// Writes clauses in the DIMACS form: the line `p cnf V C` with the numbers of variables and of clauses, then a line
@@ -65,7 +65,7 @@ fn put_literals<O: Sink>(sink: &mut O, literals: &[i32]) -> Result<(), PutError>
     Ok(())
 }
 
-// Puts a literal and the space behind it at once.
+// Puts a literal and the space after it at once.
 fn put_literal<O: Sink>(sink: &mut O, literal: i32) -> Result<(), PutError>
     ensures { Puts (O.state sink.old) (O.state sink.new) (literal_text literal) result }
 {

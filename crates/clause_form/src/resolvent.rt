@@ -20,7 +20,7 @@ pub(crate) fn literals_without(
         .collect(alloc)
 }
 
-// The literals, and behind them those of the others that aren't among them, but for one.
+// The literals, and after them those of the others that aren't among them, but for one.
 pub(crate) fn union_without(
     alloc: Global,
     mut literals: Vec<i32>,

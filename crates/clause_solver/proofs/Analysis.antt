@@ -39,7 +39,8 @@ module _ (a : Assigned) (ok : IsConsistent a) (c : List ℤ) (r : Latest) (is : 
   falls below all_false = place_below a ok r.place below (neg_ℤ r.literal) is.within is.here (all_false r.literal is.among)
 
   -- the resolvent with the reason was false before
-  pub false_before : (d : List ℤ) → IsReason a.literals d r.place → AllFalse (resolvent c r.literal d) (take r.place a.literals)
+  pub false_before : (d : List ℤ) → IsReason a.literals d r.place
+      → AllFalse (resolvent c r.literal d) (take r.place a.literals)
   false_before d why m h = elim (resolvent-has c r.literal d m h) [
     | inl x ↦ has-take_more (neg_ℤ m) a.literals r.rest r.place is.before (is.others m x.0 x.1)
     | inr y ↦ why.others m y.0 (λ e. y.1 (e ∙ is.here))
@@ -49,7 +50,8 @@ module _ (a : Assigned) (ok : IsConsistent a) (c : List ℤ) (r : Latest) (is : 
   still_full d more = let s = is.second more in (s.0, has-resolvent_left c r.literal d s.0 s.1 s.2)
 
   -- the clause adds once its other literals were false before the start
-  pub adds_here : (clauses : List (List ℤ)) (start : ℕ) → AllFalse c a.literals → r.rest ≤ start → IsSaturated clauses (take start a.literals) → All IsFull clauses → Adds clauses c
+  pub adds_here : (clauses : List (List ℤ)) (start : ℕ) → AllFalse c a.literals → r.rest ≤ start
+      → IsSaturated clauses (take start a.literals) → All IsFull clauses → Adds clauses c
   adds_here clauses start all_false early saturated full =
       let out : has r.literal (take start a.literals) ≡ false = false_from_ne_true _ (λ h.
       opposed_all a ok r.literal (has-take_all r.literal a.literals start h) (all_false r.literal is.among)) in
@@ -63,7 +65,8 @@ module _ (a : Assigned) (ok : IsConsistent a) (c : List ℤ) (r : Latest) (is : 
         );
       }
 
-after_cuts-push : (clauses : List (List ℤ)) (cuts : List Cut) (c : List ℤ) (x : Cut) → after_cuts clauses c (cuts ++ x ∷ []) ≡ option_and_then (λ e. after_cut clauses e x) (after_cuts clauses c cuts)
+after_cuts-push : (clauses : List (List ℤ)) (cuts : List Cut) (c : List ℤ) (x : Cut)
+    → after_cuts clauses c (cuts ++ x ∷ []) ≡ option_and_then (λ e. after_cut clauses e x) (after_cuts clauses c cuts)
 after_cuts-push clauses [] c x = elim (some_or_none (after_cut clauses c x)) [
   | inl r ↦ rw r.1 refl
   | inr n ↦ rw n refl
@@ -73,12 +76,15 @@ after_cuts-push clauses (y ∷ cuts) c x = elim (some_or_none (after_cut clauses
   | inr n ↦ rw n refl
 ]
 
-pub get-numbered : (clauses : List (List ℤ)) (k : ℕ) → 0 < k → k ≤ length clauses → numbered clauses k ≡ Some (slice_index_or clauses (k - 1) [])
+pub get-numbered : (clauses : List (List ℤ)) (k : ℕ) → 0 < k → k ≤ length clauses
+    → numbered clauses k ≡ Some (slice_index_or clauses (k - 1) [])
 get-numbered clauses zero h le = absurd (omega arith)
 get-numbered clauses (suc k) h le = slice_get-get_or clauses k [] (omega arith) ∙ ap (λ i. Some (slice_index_or clauses i [])) (omega arith)
 
 -- one more cut
-pub MakesClause-push : (clauses : List (List ℤ)) (first : ℕ) (cuts : List Cut) (c : List ℤ) (cut : Cut) (d : List ℤ) → MakesClause clauses first cuts c → numbered clauses cut.with ≡ Some d → has cut.pivot c ≡ true → has (neg_ℤ cut.pivot) d ≡ true → MakesClause clauses first (cuts ++ cut ∷ []) (resolvent c cut.pivot d)
+pub MakesClause-push : (clauses : List (List ℤ)) (first : ℕ) (cuts : List Cut) (c : List ℤ) (cut : Cut) (d : List ℤ)
+    → MakesClause clauses first cuts c → numbered clauses cut.with ≡ Some d → has cut.pivot c ≡ true
+    → has (neg_ℤ cut.pivot) d ≡ true → MakesClause clauses first (cuts ++ cut ∷ []) (resolvent c cut.pivot d)
 MakesClause-push clauses first cuts c cut d made there here other = elim (some_or_none (numbered clauses first)) [
   | inl r ↦
       let g : after_cuts clauses r.0 cuts ≡ Some c = rw r.1 at made in
@@ -88,5 +94,6 @@ MakesClause-push clauses first cuts c cut d made there here other = elim (some_o
   | inr n ↦ let g : None ≡ Some c = rw n at made in absurd (cc)
 ]
 
-pub MakesClause-first : (clauses : List (List ℤ)) (first : ℕ) (c : List ℤ) → numbered clauses first ≡ Some c → MakesClause clauses first [] c
+pub MakesClause-first : (clauses : List (List ℤ)) (first : ℕ) (c : List ℤ) → numbered clauses first ≡ Some c
+    → MakesClause clauses first [] c
 MakesClause-first clauses first c h = rw h refl

@@ -56,7 +56,8 @@ sign_cases (pos n) = inl refl
 sign_cases (negsuc n) = inr refl
 
 -- equal signs of a variable give the same literals of it
-digit-has : (l : ℤ) (c d : List ℤ) → OneSign c → digit (unsigned_abs l) c ≡ digit (unsigned_abs l) d → has l c ≡ true → has l d ≡ true
+digit-has : (l : ℤ) (c d : List ℤ) → OneSign c → digit (unsigned_abs l) c ≡ digit (unsigned_abs l) d → has l c ≡ true
+    → has l d ≡ true
 digit-has l c d one e h = elim (sign_cases l) [
   | inl is ↦
       let here : has (pos (unsigned_abs l)) c ≡ true = ap (λ x. has x c) (sym is) ∙ h in
@@ -119,7 +120,8 @@ NamedWithin n c = (l : ℤ) → has l c ≡ true → (0 < unsigned_abs l) × (un
 
 module _ (n : ℕ) (given made : List (List ℤ)) (each : EachAdds given made) (named : (k : ℕ) → k < length made → NamedWithin n (slice_index_or made k [])) where
   -- a clause that was made has no code of an earlier one
-  later-differs : (p q : ℕ) → p < q → q < length made → code n (slice_index_or made p []) ≢ code n (slice_index_or made q [])
+  later-differs : (p q : ℕ) → p < q → q < length made
+      → code n (slice_index_or made p []) ≢ code n (slice_index_or made q [])
   later-differs p q lt within e =
       let c = slice_index_or made p [] in
       let d = slice_index_or made q [] in

@@ -6,12 +6,12 @@ use Rattle.std.proofs.lemmas.List.Elements.{All-push}
 use Rattle.clause_form.specs.Clauses.{has, IsFull}
 use Rattle.clause_form.specs.Derivation.{HasUnits}
 use Rattle.clause_solver.specs.Learning.{AllFalse, IsConflict, clause_at}
-use Rattle.clause_solver.specs.Watching.{IsWatched, AreNamed, Visited}
-use Rattle.clause_solver.specs.Holding.{Noted}
-use Rattle.clause_solver.specs.Searching.{IsSearch, AtStarts}
+use Rattle.clause_solver.specs.Propagation.{IsPropagated, AreNamed, Visited}
+use Rattle.clause_solver.specs.Occurrences.{Noted}
+use Rattle.clause_solver.specs.Searching.{IsSearch, AtLevels}
 use Rattle.clause_solver.specs.declared.search.Search.{Search}
-use Rattle.clause_solver.proofs.Watched.{IsWatched-grown, IsWatched-visited, visited-extends, visited-paired, visited-reasons, visited-decisions, extends-length}
-use Rattle.clause_solver.proofs.Holding.{holders-more}
+use Rattle.clause_solver.proofs.Propagated.{IsPropagated-grown, IsPropagated-visited, visited-extends, visited-paired, visited-reasons, visited-decisions, extends-length}
+use Rattle.clause_solver.proofs.OccurrenceLists.{occurrences-more}
 use Rattle.clause_solver.proofs.Decisions.{last_item, decisions-grown, decisions-more, reasons-more, conflict-grown, named-same}
 
 pub some_map : (o : Option ℕ) (P Q : ℕ → Type 0) → ((k : ℕ) → P k → Q k) → IfSome o P → IfSome o Q
@@ -51,8 +51,12 @@ module _ (s t : Search) (kept : IsSearch s) (c : List ℤ) (number : ℕ) (last 
       (λ k. conflict-grown s.clauses.items c s.trail.literals t.trail.literals k (visited-extends s.trail.literals t.trail.literals s.reasons.items t.reasons.items c number change))
       kept.conflict)
 
-  pub inserted : AreNamed s.trail c → IsFull c → AtStarts s.trail.literals s.starts.items c → Noted s.holders.lists.items t.holders.lists.items c number → t.starts.items ≡ s.starts.items → t.head ≡ s.head → IfSome t.conflict (IsConflict t.clauses.items t.trail.literals) → IfNone t.conflict (All (IsWatched s.head s.trail.literals) s.clauses.items × HasUnits (λ l. has l t.trail.literals) c) → IsSearch t
-  inserted named full at_starts noted starts head conflict watched =
+  pub inserted : AreNamed s.trail c → IsFull c → AtLevels s.trail.literals s.levels.items c
+      → Noted s.occurrences.lists.items t.occurrences.lists.items c number → t.levels.items ≡ s.levels.items
+      → t.head ≡ s.head → IfSome t.conflict (IsConflict t.clauses.items t.trail.literals)
+      → IfNone t.conflict (All (IsPropagated s.head s.trail.literals) s.clauses.items
+      × HasUnits (λ l. has l t.trail.literals) c) → IsSearch t
+  inserted named full at_levels noted levels head conflict propagated =
       let old = s.trail.literals in
       let new = t.trail.literals in
       let ext = visited-extends old new s.reasons.items t.reasons.items c number change in
@@ -63,15 +67,15 @@ module _ (s t : Search) (kept : IsSearch s) (c : List ℤ) (number : ℕ) (last 
         full = rw clauses (All-push IsFull s.clauses.items c kept.full full);
         paired = paired;
         reasons = rw clauses (visited-reasons more old new s.reasons.items t.reasons.items number (omega (arith, length-append s.clauses.items (c ∷ []))) there kept.paired (reasons-more s.clauses.items c old s.reasons.items kept.reasons));
-        holders = rw (clauses, variables) (holders-more s.trail.variables number s.clauses.items c s.holders.lists.items t.holders.lists.items kept.holders noted last);
-        decisions = rw (clauses, starts) (decisions-grown more old new s.reasons.items t.reasons.items s.starts.items ext kept.paired paired
+        occurrences = rw (clauses, variables) (occurrences-more s.trail.variables number s.clauses.items c s.occurrences.lists.items t.occurrences.lists.items kept.occurrences noted last);
+        decisions = rw (clauses, levels) (decisions-grown more old new s.reasons.items t.reasons.items s.levels.items ext kept.paired paired
             (visited-decisions old new s.reasons.items t.reasons.items c number (omega arith) change)
-            (decisions-more s.clauses.items c old s.reasons.items s.starts.items at_starts kept.decisions));
+            (decisions-more s.clauses.items c old s.reasons.items s.levels.items at_levels kept.decisions));
         head = omega (arith, head, kept.head, extends-length old new ext);
         conflict = conflict;
-        watched = rw (clauses, head) (none_map t.conflict _ (All (IsWatched s.head new) more)
-            (λ both. All-push (IsWatched s.head new) s.clauses.items c
-            (λ k d lt. IsWatched-grown s.head old new (slice_index_or s.clauses.items k d) ext kept.head (both.0 k d lt))
-            (IsWatched-visited s.head new c both.1))
-            watched);
+        propagated = rw (clauses, head) (none_map t.conflict _ (All (IsPropagated s.head new) more)
+            (λ both. All-push (IsPropagated s.head new) s.clauses.items c
+            (λ k d lt. IsPropagated-grown s.head old new (slice_index_or s.clauses.items k d) ext kept.head (both.0 k d lt))
+            (IsPropagated-visited s.head new c both.1))
+            propagated);
       }

@@ -1,12 +1,12 @@
 pub mod Places
 pub mod Analysis
-pub mod Watched
+pub mod Propagated
 pub mod Scanning
 pub mod Noted
 pub mod Pushing
 pub mod FindingLatest
 pub mod Pigeons
-pub mod Holding
+pub mod OccurrenceLists
 pub mod Decisions
 pub mod Inserting
 pub mod Returning

@@ -10,13 +10,15 @@ use Rattle.clause_form.proofs.Chains.{some_or_none, derived_after-made}
 use Rattle.std.specs.List.{All}
 use Rattle.clause_form.specs.Clauses.{has}
 use Rattle.clause_solver.specs.Assigned.{Assigned}
-use Rattle.clause_solver.specs.Watching.{AreNamed}
-use Rattle.clause_solver.specs.Solving.{IsRun}
+use Rattle.clause_solver.specs.Propagation.{AreNamed}
+use Rattle.clause_solver.specs.Solving.{IsLog}
 use Rattle.clause_solver.proofs.Noted.{abs-literal}
 use Rattle.clause_solver.proofs.Counting.{NamedWithin, fewer}
 use Rattle.clause_solver.proofs.Decisions.{last_item}
 
-derived_after-push : (given made all : List (List ℤ)) (log : List Line) (line : Line) (c : List ℤ) → derived_after given made log ≡ Ok all → clause_of (given ++ all) line ≡ Some c → derived_after given made (log ++ line ∷ []) ≡ Ok (all ++ c ∷ [])
+derived_after-push : (given made all : List (List ℤ)) (log : List Line) (line : Line) (c : List ℤ)
+    → derived_after given made log ≡ Ok all → clause_of (given ++ all) line ≡ Some c
+    → derived_after given made (log ++ line ∷ []) ≡ Ok (all ++ c ∷ [])
 derived_after-push given made all [] line c h e =
     let same : made ≡ all = cc in
     derived_after-made given made line [] c (ap (λ cs. clause_of (given ++ cs) line) same ∙ e) ∙ ap (λ cs. Ok (cs ++ c ∷ [])) same
@@ -28,7 +30,9 @@ derived_after-push given made all (first ∷ log) line c h e = elim (some_or_non
 ]
 
 -- one line more, whose clause adds
-pub run-push : (given now next : List (List ℤ)) (log : List Line) (count : ℕ) (line : Line) (c : List ℤ) → IsRun given now log count → clause_of now line ≡ Some c → Adds now c → next ≡ now ++ c ∷ [] → IsRun given next (log ++ line ∷ []) (count + 1)
+pub run-push : (given now next : List (List ℤ)) (log : List Line) (count : ℕ) (line : Line) (c : List ℤ)
+    → IsLog given now log count → clause_of now line ≡ Some c → Adds now c → next ≡ now ++ c ∷ []
+    → IsLog given next (log ++ line ∷ []) (count + 1)
 run-push given now next log count line c run makes adds grown =
     let long = length-append run.made (c ∷ []) in
     record {
@@ -50,11 +54,13 @@ run-push given now next log count line c run makes adds grown =
       ];
     }
 
-pub run-refuted : (given now : List (List ℤ)) (log : List Line) (count : ℕ) (line : Line) → IsRun given now log count → clause_of now line ≡ Some [] → Refutes given (log ++ line ∷ [])
+pub run-refuted : (given now : List (List ℤ)) (log : List Line) (count : ℕ) (line : Line) → IsLog given now log count
+    → clause_of now line ≡ Some [] → Refutes given (log ++ line ∷ [])
 run-refuted given now log count line run makes =
     (run.made, derived_after-push given [] run.made log line [] run.derived_so (ap (λ cs. clause_of cs line) (sym run.all) ∙ makes))
 
-pub run-spends : (given now : List (List ℤ)) (log : List Line) (count : ℕ) → IsRun given now log count → Spends given log count
+pub run-spends : (given now : List (List ℤ)) (log : List Line) (count : ℕ) → IsLog given now log count
+    → Spends given log count
 run-spends given now log count run = record {
   made = run.made;
   derived_so = run.derived_so;
@@ -63,7 +69,7 @@ run-spends given now log count run = record {
 }
 
 -- before the first line
-pub run-none : (given now : List (List ℤ)) (log : List Line) → now ≡ given → log ≡ [] → IsRun given now log 0
+pub run-none : (given now : List (List ℤ)) (log : List Line) → now ≡ given → log ≡ [] → IsLog given now log 0
 run-none given now log same none = record {
   made = [];
   all = same ∙ sym (append-nil given);
@@ -74,7 +80,8 @@ run-none given now log same none = record {
 }
 
 -- fewer lines than 3 to the number of variables were made, where the clauses name these variables alone
-pub run-fewer : (a : Assigned) (given now : List (List ℤ)) (log : List Line) (count : ℕ) → All (AreNamed a) now → IsRun given now log count → count < 3 ^ a.variables
+pub run-fewer : (a : Assigned) (given now : List (List ℤ)) (log : List Line) (count : ℕ) → All (AreNamed a) now
+    → IsLog given now log count → count < 3 ^ a.variables
 run-fewer a given now log count named run =
     let named_made : (k : ℕ) → k < length run.made → NamedWithin a.variables (slice_index_or run.made k []) = λ k lt l h.
     let item : slice_index_or now (length given + k) [] ≡ slice_index_or run.made k [] =
@@ -86,7 +93,8 @@ run-fewer a given now log count named run =
     omega (arith, fewer a.variables given run.made run.each_adds named_made, run.clauses)
 
 -- what all clauses have, the given ones have
-pub run-given : (P : List ℤ → Type 0) (given now : List (List ℤ)) (log : List Line) (count : ℕ) → IsRun given now log count → All P now → All P given
+pub run-given : (P : List ℤ → Type 0) (given now : List (List ℤ)) (log : List Line) (count : ℕ)
+    → IsLog given now log count → All P now → All P given
 run-given P given now log count run all k d lt =
     let item : slice_index_or now k d ≡ slice_index_or given k d = ap (λ cs. slice_index_or cs k d) run.all ∙ get_or_append_left given run.made d k lt in
     subst P item (all k d (omega (arith, lt, ap length run.all, length-append given run.made)))

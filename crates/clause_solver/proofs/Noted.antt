@@ -18,7 +18,8 @@ abs-literal l h = ltb-true 0 (unsigned_abs l) (and_parts _ _ h).0
 
 module _ (literals : List ℤ) (places : List ℕ) (ok : IsTrail literals places) where
   -- a literal that holds is noted at its variable
-  pub noted_of : (l : ℤ) → has l literals ≡ true → (p : ℕ) × (p < length literals) × (at literals p ≡ l) × (slice_index places (unsigned_abs l - 1) ≡ p + 1)
+  pub noted_of : (l : ℤ) → has l literals ≡ true
+      → (p : ℕ) × (p < length literals) × (at literals p ≡ l) × (slice_index places (unsigned_abs l - 1) ≡ p + 1)
   noted_of l h =
       let r = has-place l literals h in
       (r.0, r.1, r.2, ap (λ x. slice_index places (unsigned_abs x - 1)) (sym r.2) ∙ ok.noted r.0 r.1)
@@ -27,17 +28,20 @@ module _ (literals : List ℤ) (places : List ℕ) (ok : IsTrail literals places
   pub none_noted : (l : ℤ) → slice_index places (unsigned_abs l - 1) ≡ 0 → has l literals ≡ false
   none_noted l none = false_from_ne_true _ (λ h. let r = noted_of l h in absurd (omega (arith, none, r.3)))
 
-  pub one_place : (p q : ℕ) → p < length literals → q < length literals → unsigned_abs (at literals p) ≡ unsigned_abs (at literals q) → p ≡ q
+  pub one_place : (p q : ℕ) → p < length literals → q < length literals
+      → unsigned_abs (at literals p) ≡ unsigned_abs (at literals q) → p ≡ q
   one_place p q lt within e = omega (arith, ok.noted p lt, ok.noted q within, ap (λ v. slice_index places (v - 1)) e)
 
   -- a literal of the variable whose place is noted holds exactly where it is the literal there
-  pub noted_other : (l : ℤ) (p : ℕ) → slice_index places (unsigned_abs l - 1) ≡ p + 1 → at literals p ≢ l → has l literals ≡ false
+  pub noted_other : (l : ℤ) (p : ℕ) → slice_index places (unsigned_abs l - 1) ≡ p + 1 → at literals p ≢ l
+      → has l literals ≡ false
   noted_other l p noted ne = false_from_ne_true _ (λ h.
       let r = noted_of l h in
       let same : r.0 ≡ p = omega (arith, r.3, noted) in
       ne (ap (at literals) (sym same) ∙ r.2))
 
-pub consistent_trail : (literals : List ℤ) (places : List ℕ) → IsTrail literals places → IsConsistent (record { variables = length places; literals = literals })
+pub consistent_trail : (literals : List ℤ) (places : List ℕ) → IsTrail literals places
+    → IsConsistent (record { variables = length places; literals = literals })
 consistent_trail literals places ok = record {
   named = λ l h. let r = has-place l literals h in subst (λ x. Named (record { variables = length places; literals = literals }) x) r.2 (ok.literal r.0 r.1, ok.named r.0 r.1);
   one = one_place literals places ok;
@@ -50,7 +54,8 @@ module _ (literals : List ℤ) (places : List ℕ) (ok : IsTrail literals places
   pub none_at : slice_index places v ≡ 0 → has l literals ≡ false
   none_at none = none_noted literals places ok l (ap (λ i. slice_index places i) (omega arith) ∙ none)
 
-  pub holds_at : v < length places → 0 < slice_index places v → int_eq (at literals (slice_index places v - 1)) l ≡ has l literals
+  pub holds_at : v < length places → 0 < slice_index places v
+      → int_eq (at literals (slice_index places v - 1)) l ≡ has l literals
   holds_at within some =
       let p = slice_index places v - 1 in
       let b = ok.back v within some in

@@ -8,8 +8,8 @@ use Rattle.clause_form.specs.Derivation.{HasUnits}
 use Rattle.clause_form.proofs.Members.{compared, same, apart}
 use Rattle.clause_solver.specs.Assigned.{Assigned, Named, IsConsistent}
 use Rattle.clause_solver.specs.Learning.{IsLatest}
-use Rattle.clause_solver.specs.Watching.{AreNamed}
-use Rattle.clause_solver.specs.Searching.{WentBack, AtStarts}
+use Rattle.clause_solver.specs.Propagation.{AreNamed}
+use Rattle.clause_solver.specs.Searching.{Backjumped, AtLevels}
 use Rattle.clause_solver.specs.declared.learn.Latest.{Latest}
 use Rattle.clause_solver.specs.declared.search.Search.{Search}
 use Rattle.clause_solver.proofs.Places.{not_before, place-has, has-take_all, abs-negated}
@@ -40,15 +40,16 @@ module _ (a : Assigned) (ok : IsConsistent a) (c : List ℤ) (r : Latest) (is : 
       ]
 
   -- nothing is left to do at the clause at the decisions that remain
-  pub latest-at_starts : (s t : Search) → s.trail ≡ a → WentBack s t r.rest → AtStarts t.trail.literals t.starts.items c
-  latest-at_starts s t trail back j lt =
-      let t0 = slice_index s.starts.items back.place in
-      let count = length-take-le back.place s.starts.items (omega (arith, back.within)) in
-      let below : j < back.place = omega (arith, lt, ap length back.starts, count) in
-      let start : slice_index t.starts.items j ≡ slice_index s.starts.items j = ap (λ xs. slice_index xs j) back.starts ∙ get_or-take back.place s.starts.items j 0 below in
+  pub latest-at_levels : (s t : Search) → s.trail ≡ a → Backjumped s t r.rest
+      → AtLevels t.trail.literals t.levels.items c
+  latest-at_levels s t trail back j lt =
+      let t0 = slice_index s.levels.items back.place in
+      let count = length-take-le back.place s.levels.items (omega (arith, back.within)) in
+      let below : j < back.place = omega (arith, lt, ap length back.levels, count) in
+      let start : slice_index t.levels.items j ≡ slice_index s.levels.items j = ap (λ xs. slice_index xs j) back.levels ∙ get_or-take back.place s.levels.items j 0 below in
       let early = back.before j below in
-      let holding : take (slice_index t.starts.items j) t.trail.literals ≡ take (slice_index s.starts.items j) a.literals =
-      ap (λ n. take n t.trail.literals) start ∙ ap (take (slice_index s.starts.items j)) back.literals
-      ∙ take-take (slice_index s.starts.items j) t0 s.trail.literals (omega (arith, early, back.enough))
-      ∙ ap (λ (x : Assigned). take (slice_index s.starts.items j) x.literals) trail in
-      subst (λ h. HasUnits (λ l. has l h) c) (sym holding) (units_before (slice_index s.starts.items j) early)
+      let holding : take (slice_index t.levels.items j) t.trail.literals ≡ take (slice_index s.levels.items j) a.literals =
+      ap (λ n. take n t.trail.literals) start ∙ ap (take (slice_index s.levels.items j)) back.literals
+      ∙ take-take (slice_index s.levels.items j) t0 s.trail.literals (omega (arith, early, back.enough))
+      ∙ ap (λ (x : Assigned). take (slice_index s.levels.items j) x.literals) trail in
+      subst (λ h. HasUnits (λ l. has l h) c) (sym holding) (units_before (slice_index s.levels.items j) early)

@@ -1,4 +1,4 @@
--- Clauses that are false, and why literals hold.
+-- Conflicts, and the reasons of the literals on the trail.
 use Rattle.std.specs.Prelude.{ℕ, ◌≡◌, ◌≢◌, ◌+◌, ◌-◌, ◌<◌, ◌≤◌, true, ℤ, neg_ℤ, List, [], length, slice_index_or, slice_index, take, option_and_then, Some, nat_lt, nat_le, if◌then◌else◌}
 use Rattle.std.specs.List.{All}
 use Rattle.clause_form.specs.declared.derivation.Cut.{Cut}
@@ -22,7 +22,8 @@ pub record IsConflict (clauses : List (List ℤ)) (holding : List ℤ) (k : ℕ)
   pub within : k ≤ length clauses
   pub all_false : AllFalse (clause_at clauses k) holding
 
--- the literal of a false clause that came to be false last, its place, and how many literals held when the others were false
+-- the literal of a false clause that came to be false last, the index of its negation, and how long the trail was when
+-- the others were false
 pub record IsLatest (holding c : List ℤ) (r : Latest) : Type 0 where
   pub among : has r.literal c ≡ true
   pub within : r.place < length holding
@@ -31,14 +32,17 @@ pub record IsLatest (holding c : List ℤ) (r : Latest) : Type 0 where
   pub others : (m : ℤ) → has m c ≡ true → m ≢ r.literal → has (neg_ℤ m) (take r.rest holding) ≡ true
   pub second : 0 < r.rest → (m : ℤ) × (has m c ≡ true) × (m ≢ r.literal) × (at holding (r.rest - 1) ≡ neg_ℤ m)
 
--- the clause that made the literal at a place hold
+-- the clause is the reason of the literal with that index
 pub record IsReason (holding c : List ℤ) (p : ℕ) : Type 0 where
   pub among : has (at holding p) c ≡ true
   pub others : (m : ℤ) → has m c ≡ true → m ≢ at holding p → has (neg_ℤ m) (take p holding) ≡ true
 
--- each literal behind the start has a reason
+-- each literal after the start has a reason
 abbrev pub HaveReasons : List (List ℤ) → List ℤ → List ℕ → ℕ → Type 0
-HaveReasons clauses holding reasons start = (p : ℕ) → start ≤ p → p < length holding → (0 < slice_index reasons p) × (slice_index reasons p ≤ length clauses) × IsReason holding (slice_index_or clauses (slice_index reasons p - 1) []) p
+HaveReasons clauses holding reasons start =
+    (p : ℕ) → start ≤ p → p < length holding
+    → (0 < slice_index reasons p) × (slice_index reasons p ≤ length clauses)
+    × IsReason holding (slice_index_or clauses (slice_index reasons p - 1) []) p
 
 -- nothing is left to propagate from the first literals
 abbrev pub IsSaturated : List (List ℤ) → List ℤ → Type 0
@@ -50,4 +54,6 @@ MakesClause clauses first cuts c = option_and_then (λ d. after_cuts clauses d c
 
 -- the latest of two, by their places
 abbrev pub later_of : Latest → ℤ → ℕ → Latest
-later_of r l p = if nat_lt r.place p then record { literal = l; place = p; rest = r.place + 1 } else (if nat_le r.rest p then record { literal = r.literal; place = r.place; rest = p + 1 } else r)
+later_of r l p =
+    if nat_lt r.place p then record { literal = l; place = p; rest = r.place + 1 }
+    else (if nat_le r.rest p then record { literal = r.literal; place = r.place; rest = p + 1 } else r)

@@ -1,6 +1,6 @@
 pub mod Assigned
 pub mod Learning
-pub mod Watching
-pub mod Holding
+pub mod Propagation
+pub mod Occurrences
 pub mod Searching
 pub mod Solving

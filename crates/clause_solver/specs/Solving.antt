@@ -23,8 +23,8 @@ OnSpent (answers.Sat values) P = Unit {0}
 OnSpent (answers.Unsat log) P = Unit {0}
 OnSpent (answers.Spent log) P = P log.items
 
--- so many lines made the clauses behind the given ones, and each of these adds to those before it
-pub record IsRun (given now : List (List ℤ)) (log : List Line) (count : ℕ) : Type 0 where
+-- that many lines made the clauses after the given ones, and each of these adds to those before it
+pub record IsLog (given now : List (List ℤ)) (log : List Line) (count : ℕ) : Type 0 where
   pub made : List (List ℤ)
   pub all : now ≡ given ++ made
   pub derived_so : derived given log ≡ Ok made

@@ -1,6 +1,6 @@
 ghost use Rattle.std.specs.Prelude.{◌≡◌, ◌+◌, ◌<◌, ◌≤◌, None, length, OnOk, IfNone};
 ghost use Rattle.clause_solver.specs.Assigned.{IsChoice, NoneIsOpen};
-ghost use Rattle.clause_solver.specs.Searching.{IsSearch, Continues};
+ghost use Rattle.clause_solver.specs.Searching.{IsSearch, SearchesOn};
 
 use crate::propagate::propagate_one;
 use crate::search::Search;
@@ -13,7 +13,7 @@ impl Search {
         requires kept { IsSearch self.old }
         requires quiet { self.old.conflict ≡ None }
         ensures kept { OnOk result (IsSearch self.new) }
-        ensures continues { OnOk result (Continues self.old self.new) }
+        ensures continues { OnOk result (SearchesOn self.old self.new) }
         ensures propagated { OnOk result (IfNone self.new.conflict (self.new.head ≡ length self.new.trail.literals)) }
         ensures decided { OnOk result (IfNone self.new.conflict (NoneIsOpen self.new.trail)) }
     {
@@ -34,7 +34,7 @@ impl Search {
         requires kept { IsSearch self.old }
         requires quiet { self.old.conflict ≡ None }
         ensures kept { OnOk result (IsSearch self.new) }
-        ensures continues { OnOk result (Continues self.old self.new) }
+        ensures continues { OnOk result (SearchesOn self.old self.new) }
         ensures propagated { OnOk result (IfNone self.new.conflict (self.new.head ≡ length self.new.trail.literals)) }
     {
         while self.head < self.trail.literals().len() {
@@ -52,16 +52,16 @@ impl Search {
         requires quiet { self.old.conflict ≡ None }
         requires more { self.old.head < length self.old.trail.literals }
         ensures kept { OnOk result (IsSearch self.new) }
-        ensures continues { OnOk result (Continues self.old self.new) }
+        ensures continues { OnOk result (SearchesOn self.old self.new) }
         ensures next { OnOk result (IfNone self.new.conflict (self.new.head ≡ self.old.head + 1)) }
     {
         let literal = self.trail.literals()[self.head];
-        let holders = self.holders.of(negated(literal));
+        let occurrences = self.occurrences.of(negated(literal));
         self.conflict = propagate_one(
             &mut self.trail,
             &mut self.reasons,
             self.clauses.as_slice(),
-            holders,
+            occurrences,
             self.head,
         )?;
         if self.conflict.is_none() {
@@ -70,7 +70,7 @@ impl Search {
         Ok(())
     }
 
-    // Lets an open literal hold.
+    // Begins a decision level with an open literal.
     fn decide(&mut self, literal: i32) -> Result<(), AllocError>
         requires kept { IsSearch self.old }
         requires quiet { self.old.conflict ≡ None }
@@ -78,11 +78,11 @@ impl Search {
         requires choice { IsChoice self.old.trail literal }
         ensures kept { OnOk result (IsSearch self.new) }
         ensures quiet { OnOk result (self.new.conflict ≡ None) }
-        ensures continues { OnOk result (Continues self.old self.new) }
+        ensures continues { OnOk result (SearchesOn self.old self.new) }
         ensures few { length self.old.trail.literals ≤ self.old.trail.variables }
         ensures longer { OnOk result (length self.new.trail.literals ≡ length self.old.trail.literals + 1) }
     {
-        self.starts.push(self.trail.literals().len())?;
+        self.levels.push(self.trail.literals().len())?;
         self.reasons.push(0)?;
         self.trail.push(literal)?;
         Ok(())

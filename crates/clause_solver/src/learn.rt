@@ -11,17 +11,17 @@ use crate::trail::Trail;
 use clause_form::{Clause, Cut, Line, negated};
 use std::alloc::{AllocError, Global};
 
-/// The latest literal of a false clause.
+/// The literal of a false clause that came to be false last.
 #[derive(Clone, Copy, Debug)]
 pub(crate) struct Latest {
     pub(crate) literal: i32,
-    /// The place at which its negation holds.
+    /// The index of its negation on the trail.
     pub(crate) place: usize,
-    /// The others were false when so many literals held.
+    /// How long the trail was when the others were all false.
     pub(crate) rest: usize,
 }
 
-/// The latest literal of a clause whose literals are all false.
+/// The literal of a false clause that came to be false last.
 pub(crate) fn find_latest(trail: &Trail, literals: &[i32]) -> Latest
     requires nonempty { 0 < length literals.now }
     requires all_false { AllFalse literals.now trail.now.literals }
@@ -41,7 +41,7 @@ pub(crate) fn find_latest(trail: &Trail, literals: &[i32]) -> Latest
     found
 }
 
-/// The place at which the negation of a literal holds.
+/// The index on the trail of the negation of a literal.
 fn place_of_negation(trail: &Trail, literal: i32) -> usize
     requires literal { is_literal literal ≡ true }
     requires holds { has (neg_ℤ literal) trail.now.literals ≡ true }
@@ -54,7 +54,7 @@ fn place_of_negation(trail: &Trail, literal: i32) -> usize
     trail.place(negated(literal))
 }
 
-/// The latest of the literals so far and one more.
+/// The latest of the literals so far and of one more.
 fn later(found: Latest, literal: i32, place: usize) -> Latest
     requires { (found.place + 1 < 2 ^ 64) × (place + 1 < 2 ^ 64) }
     ensures { result ≡ later_of found literal place }
@@ -76,7 +76,7 @@ fn later(found: Latest, literal: i32, place: usize) -> Latest
     }
 }
 
-/// A clause that was derived, and how.
+/// A learned clause, and its derivation.
 #[derive(Drop)]
 pub(crate) struct Learned {
     pub(crate) line: Line,
@@ -84,7 +84,8 @@ pub(crate) struct Learned {
     pub(crate) latest: Latest,
 }
 
-/// Resolves a false clause back along the reasons until all its literals but one were false before `start`.
+/// Learns a clause from a conflict: resolves it with the reasons of its literals, the latest first, until all literals
+/// but one were false before the decision level that begins at `start` (the first unique implication point).
 pub(crate) fn learn(
     alloc: Global,
     trail: &Trail,
@@ -107,7 +108,7 @@ pub(crate) fn learn(
 {
     let mut clause = clauses[conflict as usize - 1].copy(alloc)?;
     let mut cuts: Vec<Cut> = Vec::new(alloc);
-    // all literals of the clause were false when so many literals held
+    // how long the trail was when all literals of the clause were false
     let mut below = trail.literals().len();
     'back: loop {
         let latest = find_latest(trail, clause.literals());
@@ -131,7 +132,7 @@ pub(crate) fn learn(
     }
 }
 
-/// Resolves a false clause back along the reasons until nothing is left.
+/// Resolves a conflict without a decision with the reasons of its literals until the empty clause is left.
 pub(crate) fn refute(
     alloc: Global,
     trail: &Trail,

@@ -3,7 +3,7 @@ ghost use Rattle.std.specs.List.{list_all};
 ghost use Rattle.clause_form.specs.Clauses.{has, is_literal};
 ghost use Rattle.clause_solver.specs.Assigned.{IsChoice, NoneIsOpen};
 
-use crate::trail::{Trail, index_of, literal_at};
+use crate::trail::{Trail, literal_at, variable_index};
 use std::alloc::{AllocError, Global};
 use std::collections::BinaryHeap;
 
@@ -23,7 +23,7 @@ pub(crate) struct Order {
     alloc: Global,
     // one for each variable
     preferences: Vec<Preference>,
-    // Variables that may be open. Those whose activity has risen since they came here don't count any more.
+    // A heap of variables that may be open. Those whose activity has risen since then don't count any more.
     waiting: BinaryHeap<Candidate>,
     step: u64,
 }
@@ -32,14 +32,14 @@ pub(crate) struct Order {
 struct Preference {
     activity: u64,
     phase: bool,
-    // whether a candidate with this activity is waiting
+    // whether the heap has a candidate with this activity
     is_waiting: bool,
 }
 
 #[derive(Clone, Copy, PartialEq, Eq, PartialOrd, Ord)]
 struct Candidate {
     activity: u64,
-    // the place of the variable among all variables
+    // the index of the variable among all variables, from 0
     index: usize,
 }
 
@@ -79,7 +79,7 @@ impl Order {
         requires { list_all is_literal literals.now ≡ true }
     {
         for literal in literals {
-            if let Some(preference) = self.preferences.get_mut(index_of(*literal)) {
+            if let Some(preference) = self.preferences.get_mut(variable_index(*literal)) {
                 preference.activity = preference.activity.saturating_add(self.step);
                 preference.is_waiting = false;
             }
@@ -99,12 +99,12 @@ impl Order {
         Ok(())
     }
 
-    /// Keeps the signs of the literals that held from a place on, and lets their variables be decided again.
+    /// Saves the phases of the literals on the trail from `start` on, and lets their variables be decided again.
     pub(crate) fn release(&mut self, literals: &[i32], start: usize) -> Result<(), AllocError>
         requires { (l : ℤ) → has l literals.now ≡ true → is_literal l ≡ true }
     {
         for place in start..literals.len() {
-            let index = index_of(literals[place]);
+            let index = variable_index(literals[place]);
             if let Some(preference) = self.preferences.get_mut(index) {
                 preference.phase = literals[place] > 0;
             }
@@ -116,7 +116,7 @@ impl Order {
         Ok(())
     }
 
-    // Lets each variable wait, and nothing else.
+    // Makes the heap anew, with a candidate for each variable.
     fn fill(&mut self) -> Result<(), AllocError> {
         self.waiting = BinaryHeap::new(self.alloc);
         for index in 0..self.preferences.len() {
@@ -128,7 +128,7 @@ impl Order {
         Ok(())
     }
 
-    // Lets a variable wait, unless it does already.
+    // Adds a candidate for a variable, unless the heap has one that counts.
     fn wait(&mut self, index: usize) -> Result<(), AllocError> {
         let Some(preference) = self.preferences.get_mut(index) else {
             return Ok(());
@@ -143,7 +143,7 @@ impl Order {
     }
 }
 
-// The literal of a candidate that still counts, with the sign that it had last, where it is open.
+// The literal of a candidate that still counts, with its saved phase, where it is open.
 fn open_literal(preferences: &mut [Preference], trail: &Trail, candidate: Candidate) -> Option<i32>
     ensures { IfSome result (IsChoice trail.now) }
 {

@@ -16,7 +16,7 @@ use std::alloc::{AllocError, Global};
 /// 1,000,000,000: by decisions and unit propagation (DPLL), and by a clause from each conflict (CDCL, first unique
 /// implication point). It answers `Spent` where the limit is used up, and an error only where memory ran out.
 ///
-/// A line of a log names clauses by their numbers, from 1, those of the lines behind the given ones.
+/// A line of a log names clauses by their numbers, from 1, those of the lines after the given ones.
 pub fn solve(alloc: Global, clauses: &Clauses, limit: u32) -> Result<Solved, AllocError>
     requires { (1 ≤ limit) × (limit ≤ 1000000000) }
     ensures values { IfOk result (λ solved. OnSat solved (λ values. length values ≡ clauses.now.variables)) }

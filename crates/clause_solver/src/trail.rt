@@ -6,11 +6,12 @@ use clause_form::negated;
 use std::alloc::{AllocError, Global};
 use std::marker::Model;
 
-/// The literals that hold, in the order in which they came to hold, at most one of each variable.
+/// The trail: the literals that hold, in the order in which they were decided or propagated, at most one of each
+/// variable.
 #[derive(Drop)]
 pub(crate) struct Trail {
     literals: Vec<i32>,
-    // for each variable one more than its literal's place, or 0
+    // for each variable one more than the index of its literal on the trail, or 0 where it is open
     places: Vec<u32>,
 }
 
@@ -27,8 +28,8 @@ impl Model for Trail {
     ghost invariant = { λ t. IsTrail t.literals.items t.places.items };
 }
 
-/// The place of a literal's variable among all variables.
-pub(crate) fn index_of(literal: i32) -> usize
+/// The index of a literal's variable among all variables, from 0.
+pub(crate) fn variable_index(literal: i32) -> usize
     requires { is_literal literal ≡ true }
     ensures { result + 1 ≡ unsigned_abs literal }
 {
@@ -39,7 +40,7 @@ pub(crate) fn index_of(literal: i32) -> usize
     }
 }
 
-/// The literal that is the variable at that place.
+/// The positive literal of the variable with that index.
 pub(crate) fn literal_at(index: usize) -> i32
     requires { index + 1 < 2 ^ 31 }
     ensures literal { is_literal result ≡ true }
@@ -90,7 +91,7 @@ impl Trail {
         ensures value { result ≡ has literal self.now.literals }
         ensures consistent { IsConsistent self.now }
     {
-        let place = self.places[index_of(literal)];
+        let place = self.places[variable_index(literal)];
         place != 0 && same_literal(self.literals[place as usize - 1], literal)
     }
 
@@ -99,19 +100,19 @@ impl Trail {
         requires { Named self.now literal }
         ensures { result ≡ IsOpen self.now literal }
     {
-        self.places[index_of(literal)] == 0
+        self.places[variable_index(literal)] == 0
     }
 
-    /// The place of a literal that holds.
+    /// The index on the trail of a literal that holds.
     pub(crate) fn place(&self, literal: i32) -> usize
         requires { has literal self.now.literals ≡ true }
         ensures within { result < length self.now.literals }
         ensures at { slice_index_or self.now.literals result literal ≡ literal }
     {
-        self.places[index_of(literal)] as usize - 1
+        self.places[variable_index(literal)] as usize - 1
     }
 
-    /// Lets the literal hold.
+    /// Puts a literal of an open variable on the trail, so that it holds.
     pub(crate) fn push(&mut self, literal: i32) -> Result<(), AllocError>
         requires named { Named self.old literal }
         requires open { IsOpen self.old literal ≡ true }
@@ -120,11 +121,11 @@ impl Trail {
         ensures err { OnErr result (self.new.literals ≡ self.old.literals) }
     {
         self.literals.push(literal)?;
-        self.places[index_of(literal)] = self.literals.len() as u32;
+        self.places[variable_index(literal)] = self.literals.len() as u32;
         Ok(())
     }
 
-    /// Lets only the first literals hold.
+    /// Leaves the first `count` literals on the trail; the variables of the others are open again.
     pub(crate) fn truncate(&mut self, count: usize)
         requires { count ≤ length self.old.literals }
         ensures variables { self.new.variables ≡ self.old.variables }
@@ -141,7 +142,7 @@ impl Trail {
         ensures literals { self.new.literals ≡ take (length self.old.literals - 1) self.old.literals }
     {
         if let Some(literal) = self.literals.pop() {
-            self.places[index_of(literal)] = 0;
+            self.places[variable_index(literal)] = 0;
         }
     }
 }

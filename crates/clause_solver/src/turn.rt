@@ -1,7 +1,7 @@
 ghost use Rattle.std.specs.Prelude.{◌≡◌, ◌+◌, ◌-◌, ◌^◌, ◌<◌, ◌≤◌, None, length, slice_index, OnOk, IfOk, IfNone};
 ghost use Rattle.clause_solver.specs.Assigned.{NoneIsOpen};
 ghost use Rattle.clause_solver.specs.Learning.{IsConflict};
-ghost use Rattle.clause_solver.specs.Searching.{IsSearch, Continues, IsPopped, WentBack, Grew, Took, IsSettled};
+ghost use Rattle.clause_solver.specs.Searching.{IsSearch, SearchesOn, IsPopped, Backjumped, Grew, Took, IsSettled};
 
 use crate::learn::{Learned, learn, refute};
 use crate::order::Order;
@@ -9,19 +9,19 @@ use crate::search::Search;
 use clause_form::{Clause, Line};
 use std::alloc::AllocError;
 
-/// What one turn of the search came to.
+/// What one turn of the search came to: propagation and decisions up to a conflict, and what was learned from it.
 #[derive(Drop)]
 pub(crate) enum Turn {
     /// The literals that hold satisfy the clauses.
     Satisfied,
     /// This line makes the empty clause.
     Refuted(Line),
-    /// This line makes a clause that adds to the others, and that stands behind them now.
+    /// This line makes the learned clause, which now stands after the others.
     Learned(Line),
 }
 
 impl Search {
-    /// Goes on up to the next conflict and learns from it, or until the literals that hold satisfy the clauses.
+    /// Searches up to the next conflict and learns from it, or until the literals that hold satisfy the clauses.
     pub(crate) fn turn(&mut self) -> Result<Turn, AllocError>
         requires kept { IsSearch self.old }
         requires few { length self.old.clauses.items + 1 < 2 ^ 32 }
@@ -33,7 +33,7 @@ impl Search {
         let Some(conflict) = self.conflict else {
             return Ok(Turn::Satisfied);
         };
-        match self.starts.as_slice().last().copied() {
+        match self.levels.as_slice().last().copied() {
             None => {
                 let line = refute(
                     self.alloc,
@@ -48,11 +48,11 @@ impl Search {
         }
     }
 
-    // Goes on up to a conflict, unless there is one, or until each variable has a value.
+    // Searches up to a conflict, unless there is one, or until each variable has a value.
     fn settle(&mut self) -> Result<(), AllocError>
         requires kept { IsSearch self.old }
         ensures kept { OnOk result (IsSearch self.new) }
-        ensures continues { OnOk result (Continues self.old self.new) }
+        ensures continues { OnOk result (SearchesOn self.old self.new) }
         ensures settled { OnOk result (IfNone self.new.conflict (IsSettled self.new)) }
     {
         if self.conflict.is_some() {
@@ -61,13 +61,13 @@ impl Search {
         self.descend()
     }
 
-    // Learns a clause from a conflict, and goes back to where it can be used.
+    // Learns a clause from a conflict, and backjumps to where it can be used.
     fn learn_from(&mut self, conflict: u32, start: usize) -> Result<Line, AllocError>
         requires kept { IsSearch self.old }
         requires few { length self.old.clauses.items + 1 < 2 ^ 32 }
         requires conflict { IsConflict self.old.clauses.items self.old.trail.literals conflict }
-        requires some { 0 < length self.old.starts.items }
-        requires start { start ≡ slice_index self.old.starts.items (length self.old.starts.items - 1) }
+        requires some { 0 < length self.old.levels.items }
+        requires start { start ≡ slice_index self.old.levels.items (length self.old.levels.items - 1) }
         ensures kept { OnOk result (IsSearch self.new) }
         ensures variables { OnOk result (self.new.trail.variables ≡ self.old.trail.variables) }
         ensures grew { IfOk result (λ line. Grew self.old self.new line) }
@@ -86,22 +86,22 @@ impl Search {
             clause,
             latest,
         } = learned;
-        self.back_to(latest.rest)?;
+        self.backjump(latest.rest)?;
         self.insert(clause)?;
         Ok(line)
     }
 
-    // Goes back to before the first decision that was made when `rest` literals or more held.
-    fn back_to(&mut self, rest: usize) -> Result<(), AllocError>
+    // Backjumps: takes back the decision levels that begin at a trail of `rest` literals or more.
+    fn backjump(&mut self, rest: usize) -> Result<(), AllocError>
         requires kept { IsSearch self.old }
-        requires some { 0 < length self.old.starts.items }
-        requires rest { rest ≤ slice_index self.old.starts.items (length self.old.starts.items - 1) }
+        requires some { 0 < length self.old.levels.items }
+        requires rest { rest ≤ slice_index self.old.levels.items (length self.old.levels.items - 1) }
         ensures kept { OnOk result (IsSearch self.new) }
         ensures variables { OnOk result (self.new.trail.variables ≡ self.old.trail.variables) }
         ensures clauses { OnOk result (self.new.clauses.items ≡ self.old.clauses.items) }
-        ensures back { OnOk result (WentBack self.old self.new rest) }
+        ensures back { OnOk result (Backjumped self.old self.new rest) }
     {
-        let start = pop_starts(&mut self.starts, rest);
+        let start = pop_levels(&mut self.levels, rest);
         self.order.release(self.trail.literals(), start)?;
         self.trail.truncate(start);
         self.reasons.truncate(start);
@@ -111,19 +111,19 @@ impl Search {
     }
 }
 
-// Takes off the decisions that were made when `rest` literals or more held, and answers how many held before the
-// first of them.
-fn pop_starts(starts: &mut Vec<usize>, rest: usize) -> usize
-    requires some { 0 < length starts.old.items }
-    requires rest { rest ≤ slice_index starts.old.items (length starts.old.items - 1) }
-    ensures { IsPopped starts.old.items starts.new.items rest result }
+// Takes off the decision levels that begin at a trail of `rest` literals or more, and answers where the first of them
+// begins.
+fn pop_levels(levels: &mut Vec<usize>, rest: usize) -> usize
+    requires some { 0 < length levels.old.items }
+    requires rest { rest ≤ slice_index levels.old.items (length levels.old.items - 1) }
+    ensures { IsPopped levels.old.items levels.new.items rest result }
 {
-    let mut count = starts.as_slice().len() - 1;
-    while count > 0 && starts[count - 1] >= rest {
+    let mut count = levels.as_slice().len() - 1;
+    while count > 0 && levels[count - 1] >= rest {
         count -= 1;
     }
-    let start = starts[count];
-    starts.truncate(count);
+    let start = levels[count];
+    levels.truncate(count);
     start
 }
 

@@ -4,7 +4,7 @@ use thiserror::Error;
 /// Why a derivation has no clauses.
 #[derive(Clone, Copy, Debug, PartialEq, Eq, Drop, Error)]
 pub enum CheckLogError {
-    /// The first line that is no resolution chain of earlier clauses, counted from 1.
+    /// The first line that isn't a resolution chain of earlier clauses, counted from 1.
     #[error("line {0} is no resolution chain of earlier clauses")]
     Bad(u32),
     /// Memory ran out. It may come at any call.

@@ -61,7 +61,7 @@ fn clause_of(
     Ok(Some(clause))
 }
 
-// The clause of that number, counted from 1, of the clauses given and behind them those made.
+// The clause of that number, counted from 1, of the clauses given and after them those made.
 fn numbered<'a>(given: &'a [Clause], made: &'a [Clause], number: u32) -> Option<&'a Clause>
     ensures { option_copied result ≡ derivation.numbered (given.now ++ made.now) number }
 {

@@ -7,45 +7,45 @@ const FOUR: [&[i32]; 4] = [&[1, 2], &[-1, 2], &[1, -2], &[-1, -2]];
 
 // A log as the lines of a certificate: the first clause, and a pivot and a clause for each cut.
 #[derive(Clone, Copy)]
-struct Row {
+struct Case {
     clauses: &'static [&'static [i32]],
     log: &'static [(u32, &'static [(i32, u32)])],
     made: Result<&'static [&'static [i32]], CheckLogError>,
 }
 
-const ROWS: [Row; 7] = [
-    Row {
+const ROWS: [Case; 7] = [
+    Case {
         clauses: &FOUR,
         log: &[(1, &[(1, 2)]), (3, &[(1, 4)]), (5, &[(2, 6)])],
         made: Ok(&[&[2], &[-2], &[]]),
     },
-    Row {
+    Case {
         clauses: &FOUR,
         log: &[(1, &[(2, 2)]), (3, &[(1, 4)]), (5, &[(2, 6)])],
         made: Err(CheckLogError::Bad(1)),
     },
-    Row {
+    Case {
         clauses: &FOUR,
         log: &[(5, &[])],
         made: Err(CheckLogError::Bad(1)),
     },
-    Row {
+    Case {
         clauses: &FOUR,
         log: &[(1, &[(1, 2)]), (5, &[]), (7, &[])],
         made: Err(CheckLogError::Bad(3)),
     },
-    Row {
+    Case {
         clauses: &FOUR,
         log: &[(1, &[(i32::MIN, 2)])],
         made: Err(CheckLogError::Bad(1)),
     },
     // The pivot alone leaves the first clause, and its negation alone the second.
-    Row {
+    Case {
         clauses: &[&[1, -1], &[-1]],
         log: &[(1, &[(1, 2)])],
         made: Ok(&[&[-1]]),
     },
-    Row {
+    Case {
         clauses: &[],
         log: &[],
         made: Ok(&[]),

@@ -18,7 +18,9 @@ use Rattle.gate_net.specs.declared.gate.Operator.TheVariants.{And, Or, Xor}
 use Rattle.gate_net.specs.declared.gate.Gate.{Gate}
 use Rattle.gate_net.specs.declared.gate.Gate.TheVariants.{Constant, Input, Not, Binary}
 
-pub clauses-push : (place : ℕ) (gates : List Gate) (g : Gate) → clauses_from place (gates ++ g ∷ []) ≡ clauses_from place gates ++ gate_clauses (record { place = place + length gates }) g
+pub clauses-push : (place : ℕ) (gates : List Gate) (g : Gate)
+    → clauses_from place (gates ++ g ∷ [])
+    ≡ clauses_from place gates ++ gate_clauses (record { place = place + length gates }) g
 clauses-push place [] g =
     append-nil (gate_clauses (record { place = place }) g) ∙ ap (λ p. gate_clauses (record { place = p }) g) (sym (add-zero place))
 clauses-push place (h ∷ gates) g =
@@ -27,7 +29,9 @@ clauses-push place (h ∷ gates) g =
     ∙ sym (append_assoc (gate_clauses (record { place = place }) h) (clauses_from (suc place) gates) (gate_clauses (record { place = suc place + length gates }) g))
     ∙ ap (λ p. gate_clauses (record { place = place }) h ++ clauses_from (suc place) gates ++ gate_clauses (record { place = p }) g) e
 
-pub clauses-more : (net : List Gate) (k : ℕ) (d : Gate) → k < length net → clauses_from 0 (take (k + 1) net) ≡ clauses_from 0 (take k net) ++ gate_clauses (record { place = k }) (get_or net k d)
+pub clauses-more : (net : List Gate) (k : ℕ) (d : Gate) → k < length net
+    → clauses_from 0 (take (k + 1) net)
+    ≡ clauses_from 0 (take k net) ++ gate_clauses (record { place = k }) (get_or net k d)
 clauses-more net k d h =
     let within : k ≤ length net = omega arith in
     let e : 0 + length (take k net) ≡ k = omega (arith, length-take-le k net within) in
@@ -71,10 +75,12 @@ names-one m x h = names-cons m (number_of x) [] (names-number m x h) (names-nil 
 names-two : (m : ℕ) (x y : Literal) → place_of x < m → place_of y < m → NamesWithin m (clause_of_two x y)
 names-two m x y h k = names-cons m (number_of x) (clause_of_one y) (names-number m x h) (names-one m y k)
 
-names-three : (m : ℕ) (x y z : Literal) → place_of x < m → place_of y < m → place_of z < m → NamesWithin m (clause_of_three x y z)
+names-three : (m : ℕ) (x y z : Literal) → place_of x < m → place_of y < m → place_of z < m
+    → NamesWithin m (clause_of_three x y z)
 names-three m x y z h k l = names-cons m (number_of x) (clause_of_two y z) (names-number m x h) (names-two m y z k l)
 
-operator-names : (m : ℕ) (operator : Operator) (n x y : Node) → n.place < m → x.place < m → y.place < m → All (NamesWithin m) (operator_clauses operator n x y)
+operator-names : (m : ℕ) (operator : Operator) (n x y : Node) → n.place < m → x.place < m → y.place < m
+    → All (NamesWithin m) (operator_clauses operator n x y)
 operator-names m And n x y h k l =
     All-from_recursion (NamesWithin m) (operator_clauses And n x y) (names-two m (IsNot n) (Is x) h k, (names-two m (IsNot n) (Is y) h l, (names-three m (Is n) (IsNot x) (IsNot y) h k l, tt)))
 operator-names m Or n x y h k l =
@@ -94,7 +100,9 @@ gate-names m n (Binary operator x y) h r =
     let l : y.place < m = omega (arith, r.1) in
     operator-names m operator n x y h k l
 
-pub clauses-names : (m place : ℕ) (gates : List Gate) → place + length gates ≤ m → ((k : ℕ) (d : Gate) → k < length gates → Refers (place + k) (get_or gates k d)) → All (NamesWithin m) (clauses_from place gates)
+pub clauses-names : (m place : ℕ) (gates : List Gate) → place + length gates ≤ m
+    → ((k : ℕ) (d : Gate) → k < length gates → Refers (place + k) (get_or gates k d))
+    → All (NamesWithin m) (clauses_from place gates)
 clauses-names m place [] h r = All-nil (NamesWithin m)
 clauses-names m place (g ∷ gates) h r =
     let here : place < m = omega arith in

@@ -11,7 +11,8 @@ use Rattle.gate_net.specs.declared.gate.Gate.TheVariants.{Not, Binary}
 pub continues-same : (net after : List Gate) → after ≡ net → Continues net after
 continues-same net after e = record { added = []; gates = e ∙ sym (append-nil net) }
 
-pub continues-then : (first second third : List Gate) → Continues first second → Continues second third → Continues first third
+pub continues-then : (first second third : List Gate) → Continues first second → Continues second third
+    → Continues first third
 continues-then first second third f g = record {
   added = f.added ++ g.added;
   gates = g.gates ∙ ap (λ x. x ++ g.added) f.gates ∙ append_assoc first f.added g.added;
@@ -43,7 +44,8 @@ grows-push net after g e none =
       inputs = omega (arith, ap inputs_of e, inputs_of-append net (g ∷ []));
     }
 
-pub grows-then : (most more : ℕ) (first second third : List Gate) → Grows most first second → Grows more second third → Grows (most + more) first third
+pub grows-then : (most more : ℕ) (first second third : List Gate) → Grows most first second → Grows more second third
+    → Grows (most + more) first third
 grows-then most more first second third f g =
     let h = continues-then first second third f.begins g.begins in
     record { begins = h; kept = keeps first third h; at_least = omega (arith, f.at_least, g.at_least); few = omega (arith, f.few, g.few); inputs = g.inputs ∙ f.inputs }
@@ -52,43 +54,58 @@ pub grows-within : (most more : ℕ) (net after : List Gate) → most ≤ more �
 grows-within most more net after h f = record { begins = f.begins; kept = f.kept; at_least = f.at_least; few = omega (arith, f.few); inputs = f.inputs }
 
 -- what always holds in a net always holds in a net that continues it
-pub always-on : (net after : List Gate) (fact : (Node → Bool) → Type 0) → Continues net after → Always net fact → Always after fact
+pub always-on : (net after : List Gate) (fact : (Node → Bool) → Type 0) → Continues net after → Always net fact
+    → Always after fact
 always-on net after fact f h = λ later g inputs. h later (continues-then net after later f g) inputs
 
 -- what always holds, holds now
-pub always-now : (net : List Gate) (fact : (Node → Bool) → Type 0) → Always net fact → (inputs : List Bool) → fact (node_value net inputs)
+pub always-now : (net : List Gate) (fact : (Node → Bool) → Type 0) → Always net fact → (inputs : List Bool)
+    → fact (node_value net inputs)
 always-now net fact h inputs = h net (continues-same net net refl) inputs
 
 -- what is true of one, two or three nodes' values in a net always is
-pub always-one : (net : List Gate) (n : Node) (x : Bool) → IsNode net n → ((inputs : List Bool) → node_value net inputs n ≡ x) → Always net (λ value. value n ≡ x)
+pub always-one : (net : List Gate) (n : Node) (x : Bool) → IsNode net n
+    → ((inputs : List Bool) → node_value net inputs n ≡ x) → Always net (λ value. value n ≡ x)
 always-one net n x h now = λ later f inputs. keeps net later f n h inputs ∙ now inputs
 
-pub always-two : (net : List Gate) (n a : Node) (x : Bool → Bool) → IsNode net n → IsNode net a → ((inputs : List Bool) → node_value net inputs n ≡ x (node_value net inputs a)) → Always net (λ value. value n ≡ x (value a))
+pub always-two : (net : List Gate) (n a : Node) (x : Bool → Bool) → IsNode net n → IsNode net a
+    → ((inputs : List Bool) → node_value net inputs n ≡ x (node_value net inputs a))
+    → Always net (λ value. value n ≡ x (value a))
 always-two net n a x h k now = λ later f inputs. keeps net later f n h inputs ∙ now inputs ∙ ap x (sym (keeps net later f a k inputs))
 
-pub always-three : (net : List Gate) (n a b : Node) (x : Bool → Bool → Bool) → IsNode net n → IsNode net a → IsNode net b → ((inputs : List Bool) → node_value net inputs n ≡ x (node_value net inputs a) (node_value net inputs b)) → Always net (λ value. value n ≡ x (value a) (value b))
+pub always-three : (net : List Gate) (n a b : Node) (x : Bool → Bool → Bool) → IsNode net n → IsNode net a
+    → IsNode net b
+    → ((inputs : List Bool) → node_value net inputs n ≡ x (node_value net inputs a) (node_value net inputs b))
+    → Always net (λ value. value n ≡ x (value a) (value b))
 always-three net n a b x h k l now = λ later f inputs.
     keeps net later f n h inputs ∙ now inputs ∙ ap (λ v. x v (node_value net inputs b)) (sym (keeps net later f a k inputs)) ∙ ap (λ v. x (node_value later inputs a) v) (sym (keeps net later f b l inputs))
 
 -- what a call that appends one gate gives, whether it fails or not
-pub grows-result : {N E : Type 0} (r : Result N E) (net after : List Gate) (g : Gate) → OnOk r (after ≡ net ++ g ∷ []) → OnErr r (after ≡ net) → one_if_input g ≡ 0 → Grows 1 net after
+pub grows-result : {N E : Type 0} (r : Result N E) (net after : List Gate) (g : Gate) → OnOk r (after ≡ net ++ g ∷ [])
+    → OnErr r (after ≡ net) → one_if_input g ≡ 0 → Grows 1 net after
 grows-result (Ok n) net after g ok err none = grows-push net after g ok none
 grows-result (Err x) net after g ok err none = grows-same 1 net after err
 
-pub continues-result : {N E : Type 0} (r : Result N E) (net after : List Gate) (g : Gate) → OnOk r (after ≡ net ++ g ∷ []) → OnErr r (after ≡ net) → Continues net after
+pub continues-result : {N E : Type 0} (r : Result N E) (net after : List Gate) (g : Gate)
+    → OnOk r (after ≡ net ++ g ∷ []) → OnErr r (after ≡ net) → Continues net after
 continues-result (Ok n) net after g ok err = record { added = g ∷ []; gates = ok }
 continues-result (Err x) net after g ok err = continues-same net after err
 
-pub not-result : {E : Type 0} (r : Result Node E) (net after : List Gate) (a : Node) → OnOk r (after ≡ net ++ Not a ∷ []) → IfOk r (λ n. n.place ≡ length net) → IsNode net a → IfOk r (λ n. Always after (λ value. value n ≡ not (value a)))
+pub not-result : {E : Type 0} (r : Result Node E) (net after : List Gate) (a : Node)
+    → OnOk r (after ≡ net ++ Not a ∷ []) → IfOk r (λ n. n.place ≡ length net) → IsNode net a
+    → IfOk r (λ n. Always after (λ value. value n ≡ not (value a)))
 not-result (Ok n) net after a e place h =
     always-two after n a not (newest_is net after (Not a) n e place) (stays net after a (record { added = Not a ∷ []; gates = e }) h) (not-value net after a n e h place)
 not-result (Err x) net after a e place h = tt
 
-pub binary-result : (operator : Operator) {E : Type 0} (r : Result Node E) (net after : List Gate) (a b : Node) → OnOk r (after ≡ net ++ Binary operator a b ∷ []) → IfOk r (λ n. n.place ≡ length net) → IsNode net a → IsNode net b → IfOk r (λ n. Always after (λ value. value n ≡ applied operator (value a) (value b)))
+pub binary-result : (operator : Operator) {E : Type 0} (r : Result Node E) (net after : List Gate) (a b : Node)
+    → OnOk r (after ≡ net ++ Binary operator a b ∷ []) → IfOk r (λ n. n.place ≡ length net) → IsNode net a
+    → IsNode net b → IfOk r (λ n. Always after (λ value. value n ≡ applied operator (value a) (value b)))
 binary-result operator (Ok n) net after a b e place h k =
     let f : Continues net after = record { added = Binary operator a b ∷ []; gates = e } in
     always-three after n a b (applied operator) (newest_is net after (Binary operator a b) n e place) (stays net after a f h) (stays net after b f k) (binary-value operator net after a b n e h k place)
 binary-result operator (Err x) net after a b e place h k = tt
 
-pub grows_chain : (most more sum : ℕ) (first second third : List Gate) → Grows most first second → Grows more second third → most + more ≤ sum → Grows sum first third
+pub grows_chain : (most more sum : ℕ) (first second third : List Gate) → Grows most first second
+    → Grows more second third → most + more ≤ sum → Grows sum first third
 grows_chain most more sum first second third f g h = grows-within (most + more) sum first third h (grows-then most more first second third f g)

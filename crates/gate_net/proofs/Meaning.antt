@@ -45,7 +45,9 @@ not-clauses true false = refl
 not-clauses false true = refl
 not-clauses false false = refl
 
-and-clauses : (v x y : Bool) → ((not v || (x || false)) && ((not v || (y || false)) && ((v || (not x || (not y || false))) && true))) ≡ beq v (x && y)
+and-clauses : (v x y : Bool)
+    → ((not v || (x || false)) && ((not v || (y || false)) && ((v || (not x || (not y || false))) && true)))
+    ≡ beq v (x && y)
 and-clauses true true true = refl
 and-clauses true true false = refl
 and-clauses true false true = refl
@@ -55,7 +57,9 @@ and-clauses false true false = refl
 and-clauses false false true = refl
 and-clauses false false false = refl
 
-or-clauses : (v x y : Bool) → ((v || (not x || false)) && ((v || (not y || false)) && ((not v || (x || (y || false))) && true))) ≡ beq v (x || y)
+or-clauses : (v x y : Bool)
+    → ((v || (not x || false)) && ((v || (not y || false)) && ((not v || (x || (y || false))) && true)))
+    ≡ beq v (x || y)
 or-clauses true true true = refl
 or-clauses true true false = refl
 or-clauses true false true = refl
@@ -65,7 +69,10 @@ or-clauses false true false = refl
 or-clauses false false true = refl
 or-clauses false false false = refl
 
-xor-clauses : (v x y : Bool) → ((not v || (x || (y || false))) && ((not v || (not x || (not y || false))) && ((v || (not x || (y || false))) && ((v || (x || (not y || false))) && true)))) ≡ beq v (not (beq x y))
+xor-clauses : (v x y : Bool)
+    → ((not v || (x || (y || false)))
+    && ((not v || (not x || (not y || false)))
+    && ((v || (not x || (y || false))) && ((v || (x || (not y || false))) && true)))) ≡ beq v (not (beq x y))
 xor-clauses true true true = refl
 xor-clauses true true false = refl
 xor-clauses true false true = refl
@@ -75,33 +82,42 @@ xor-clauses false true false = refl
 xor-clauses false false true = refl
 xor-clauses false false false = refl
 
-operator-consistent : (a : ℕ → Bool) (operator : Operator) (n x y : Node) → list_all (is_true a) (operator_clauses operator n x y) ≡ beq (a (suc n.place)) (applied operator (a (suc x.place)) (a (suc y.place)))
+operator-consistent : (a : ℕ → Bool) (operator : Operator) (n x y : Node)
+    → list_all (is_true a) (operator_clauses operator n x y)
+    ≡ beq (a (suc n.place)) (applied operator (a (suc x.place)) (a (suc y.place)))
 operator-consistent a And n x y = and-clauses (a (suc n.place)) (a (suc x.place)) (a (suc y.place))
 operator-consistent a Or n x y = or-clauses (a (suc n.place)) (a (suc x.place)) (a (suc y.place))
 operator-consistent a Xor n x y = xor-clauses (a (suc n.place)) (a (suc x.place)) (a (suc y.place))
 
-gate-consistent : (a : ℕ → Bool) (n : Node) (g : Gate) → list_all (is_true a) (gate_clauses n g) ≡ consistent a n.place g
+gate-consistent : (a : ℕ → Bool) (n : Node) (g : Gate)
+    → list_all (is_true a) (gate_clauses n g) ≡ consistent a n.place g
 gate-consistent a n (Constant true) = constant-true (a (suc n.place))
 gate-consistent a n (Constant false) = constant-false (a (suc n.place))
 gate-consistent a n Input = refl
 gate-consistent a n (Not x) = not-clauses (a (suc n.place)) (a (suc x.place))
 gate-consistent a n (Binary operator x y) = operator-consistent a operator n x y
 
-each-next : (a : ℕ → Bool) (place : ℕ) (g : Gate) (gates : List Gate) → consistent a place g ≡ true → ((k : ℕ) (d : Gate) → k < length gates → consistent a (suc place + k) (get_or gates k d) ≡ true) → (k : ℕ) (d : Gate) → k < suc (length gates) → consistent a (place + k) (get_or (g ∷ gates) k d) ≡ true
+each-next : (a : ℕ → Bool) (place : ℕ) (g : Gate) (gates : List Gate) → consistent a place g ≡ true
+    → ((k : ℕ) (d : Gate) → k < length gates → consistent a (suc place + k) (get_or gates k d) ≡ true)
+    → (k : ℕ) (d : Gate) → k < suc (length gates) → consistent a (place + k) (get_or (g ∷ gates) k d) ≡ true
 each-next a place g gates here rest zero d i = subst (λ p. consistent a p g ≡ true) (sym (add-zero place)) here
 each-next a place g gates here rest (suc k) d i =
     let e : suc place + k ≡ place + suc k = omega arith in
     subst (λ p. consistent a p (get_or gates k d) ≡ true) e (rest k d (omega arith))
 
 -- each gate's clauses are true, gate by gate
-pub each-consistent : (a : ℕ → Bool) (place : ℕ) (gates : List Gate) → list_all (is_true a) (clauses_from place gates) ≡ true → (k : ℕ) (d : Gate) → k < length gates → consistent a (place + k) (get_or gates k d) ≡ true
+pub each-consistent : (a : ℕ → Bool) (place : ℕ) (gates : List Gate)
+    → list_all (is_true a) (clauses_from place gates) ≡ true → (k : ℕ) (d : Gate) → k < length gates
+    → consistent a (place + k) (get_or gates k d) ≡ true
 each-consistent a place [] h k d i = absurd (omega arith)
 each-consistent a place (g ∷ gates) h k d i =
     let n : Node = record { place = place } in
     let parts = and_parts _ _ (sym (list_all-append (is_true a) (gate_clauses n g) (clauses_from (suc place) gates)) ∙ h) in
     each-next a place g gates (sym (gate-consistent a n g) ∙ parts.0) (each-consistent a (suc place) gates parts.1) k d i
 
-pub all-consistent : (a : ℕ → Bool) (place : ℕ) (gates : List Gate) → ((k : ℕ) (d : Gate) → k < length gates → consistent a (place + k) (get_or gates k d) ≡ true) → list_all (is_true a) (clauses_from place gates) ≡ true
+pub all-consistent : (a : ℕ → Bool) (place : ℕ) (gates : List Gate)
+    → ((k : ℕ) (d : Gate) → k < length gates → consistent a (place + k) (get_or gates k d) ≡ true)
+    → list_all (is_true a) (clauses_from place gates) ≡ true
 all-consistent a place [] h = refl
 all-consistent a place (g ∷ gates) h =
     let n : Node = record { place = place } in
@@ -114,21 +130,26 @@ all-consistent a place (g ∷ gates) h =
     subst (λ p. consistent a p (get_or gates k d) ≡ true) e (h (suc k) d j)))
 
 -- the values of operands decide the value of a gate
-operands : (inputs : List Bool) (next k : ℕ) (vs ws : List Bool) (g : Gate) → Refers k g → ((j : ℕ) → j < k → get_or vs j false ≡ get_or ws j false) → gate_value inputs next vs g ≡ gate_value inputs next ws g
+operands : (inputs : List Bool) (next k : ℕ) (vs ws : List Bool) (g : Gate) → Refers k g
+    → ((j : ℕ) → j < k → get_or vs j false ≡ get_or ws j false)
+    → gate_value inputs next vs g ≡ gate_value inputs next ws g
 operands inputs next k vs ws (Constant b) r same = refl
 operands inputs next k vs ws Input r same = refl
 operands inputs next k vs ws (Not x) r same = ap not (same x.place r)
 operands inputs next k vs ws (Binary operator x y) r same =
     ap (λ v. applied operator v (at vs y)) (same x.place r.0) ∙ ap (λ v. applied operator (at ws x) v) (same y.place r.1)
 
-front-value : (inputs : List Bool) (net : List Gate) (k j : ℕ) → k ≤ length net → j < k → get_or (values_of inputs (take k net)) j false ≡ get_or (values_of inputs net) j false
+front-value : (inputs : List Bool) (net : List Gate) (k j : ℕ) → k ≤ length net → j < k
+    → get_or (values_of inputs (take k net)) j false ≡ get_or (values_of inputs net) j false
 front-value inputs net k j h i =
     let n : Node = record { place = j } in
     let within : IsNode (take k net) n = omega (arith, length-take-le k net h) in
     sym (node_value-kept (take k net) (drop k net) inputs n within) ∙ ap (λ x. node_value x inputs n) (take-append-drop k net)
 
 -- each node has the value of its gate at the values of all nodes
-pub value_at : (inputs : List Bool) (net : List Gate) (k : ℕ) (d : Gate) → k < length net → Refers k (get_or net k d) → get_or (values_of inputs net) k false ≡ gate_value inputs (inputs_of (take k net)) (values_of inputs net) (get_or net k d)
+pub value_at : (inputs : List Bool) (net : List Gate) (k : ℕ) (d : Gate) → k < length net → Refers k (get_or net k d)
+    → get_or (values_of inputs net) k false
+    ≡ gate_value inputs (inputs_of (take k net)) (values_of inputs net) (get_or net k d)
 value_at inputs net k d h r =
     let g = get_or net k d in
     let next = inputs_of (take k net) in
@@ -141,7 +162,8 @@ value_at inputs net k d h r =
     ∙ get_or_push before (gate_value inputs next before g) false k (length-values_front inputs net k until)
     ∙ operands inputs next k before (values_of inputs net) g r (λ j i. front-value inputs net k j until i)
 
-length-with_input : (g : Gate) (b : Bool) (rest : List Bool) → length (with_input g b rest) ≡ one_if_input g + length rest
+length-with_input : (g : Gate) (b : Bool) (rest : List Bool)
+    → length (with_input g b rest) ≡ one_if_input g + length rest
 length-with_input (Constant v) b rest = omega arith
 length-with_input Input b rest = omega arith
 length-with_input (Not x) b rest = omega arith
@@ -152,32 +174,38 @@ length-given a place [] = refl
 length-given a place (g ∷ net) =
     omega (arith, length-with_input g (a (suc place)) (given_from a (suc place) net), length-given a (suc place) net)
 
-behind : (g : Gate) (b : Bool) (rest : List Bool) (n : ℕ) → get_or (with_input g b rest) (one_if_input g + n) false ≡ get_or rest n false
-behind (Constant v) b rest n = ap (λ i. get_or rest i false) (omega arith)
-behind Input b rest n = let e : 1 + n ≡ suc n = omega arith in ap (λ i. get_or (b ∷ rest) i false) e
-behind (Not x) b rest n = ap (λ i. get_or rest i false) (omega arith)
-behind (Binary operator x y) b rest n = ap (λ i. get_or rest i false) (omega arith)
+get_after : (g : Gate) (b : Bool) (rest : List Bool) (n : ℕ)
+    → get_or (with_input g b rest) (one_if_input g + n) false ≡ get_or rest n false
+get_after (Constant v) b rest n = ap (λ i. get_or rest i false) (omega arith)
+get_after Input b rest n = let e : 1 + n ≡ suc n = omega arith in ap (λ i. get_or (b ∷ rest) i false) e
+get_after (Not x) b rest n = ap (λ i. get_or rest i false) (omega arith)
+get_after (Binary operator x y) b rest n = ap (λ i. get_or rest i false) (omega arith)
 
 in_front : (g : Gate) (b : Bool) (rest : List Bool) → g ≡ Input → get_or (with_input g b rest) 0 false ≡ b
 in_front g b rest e = rw e refl
 
 -- the assignment's value at an input is the one that it gives to the net there
-given_at : (a : ℕ → Bool) (place : ℕ) (net : List Gate) (k : ℕ) (d : Gate) → k < length net → get_or net k d ≡ Input → get_or (given_from a place net) (inputs_of (take k net)) false ≡ a (suc (place + k))
+given_at : (a : ℕ → Bool) (place : ℕ) (net : List Gate) (k : ℕ) (d : Gate) → k < length net → get_or net k d ≡ Input
+    → get_or (given_from a place net) (inputs_of (take k net)) false ≡ a (suc (place + k))
 given_at a place [] k d h e = absurd (omega arith)
 given_at a place (g ∷ net) zero d h e =
     in_front g (a (suc place)) (given_from a (suc place) net) e ∙ ap (λ p. a (suc p)) (sym (add-zero place))
 given_at a place (g ∷ net) (suc k) d h e =
     let step : suc place + k ≡ place + suc k = omega arith in
-    behind g (a (suc place)) (given_from a (suc place) net) (inputs_of (take k net))
+    get_after g (a (suc place)) (given_from a (suc place) net) (inputs_of (take k net))
     ∙ given_at a (suc place) net k d (omega arith) e
     ∙ ap (λ p. a (suc p)) step
 
 -- a place of an input that is not the first gate, one place on
-shifted : (g : Gate) (net : List Gate) (i : ℕ) → one_if_input g ≡ 0 → (k : ℕ) × (k < length net) × ((d : Gate) → get_or net k d ≡ Input) × (inputs_of (take k net) ≡ i) → (k : ℕ) × (k < length (g ∷ net)) × ((d : Gate) → get_or (g ∷ net) k d ≡ Input) × (inputs_of (take k (g ∷ net)) ≡ i)
+shifted : (g : Gate) (net : List Gate) (i : ℕ) → one_if_input g ≡ 0
+    → (k : ℕ) × (k < length net) × ((d : Gate) → get_or net k d ≡ Input) × (inputs_of (take k net) ≡ i)
+    → (k : ℕ) × (k < length (g ∷ net)) × ((d : Gate) → get_or (g ∷ net) k d ≡ Input)
+    × (inputs_of (take k (g ∷ net)) ≡ i)
 shifted g net i none p = (suc p.0, omega (arith, p.1), p.2, omega (arith, p.3))
 
 -- the place of an input
-input_place : (net : List Gate) (i : ℕ) → i < inputs_of net → (k : ℕ) × (k < length net) × ((d : Gate) → get_or net k d ≡ Input) × (inputs_of (take k net) ≡ i)
+input_place : (net : List Gate) (i : ℕ) → i < inputs_of net
+    → (k : ℕ) × (k < length net) × ((d : Gate) → get_or net k d ≡ Input) × (inputs_of (take k net) ≡ i)
 input_place [] i h = absurd (omega arith)
 input_place (Constant b ∷ net) i h = shifted (Constant b) net i refl (input_place net i (omega arith))
 input_place (Not x ∷ net) i h = shifted (Not x) net i refl (input_place net i (omega arith))
@@ -200,7 +228,9 @@ same-beq true false h = sym h
 same-beq false true h = h
 
 -- a gate whose clauses are true has the value that its operands' variables decide
-gate-holds : (a : ℕ → Bool) (inputs : List Bool) (next k : ℕ) (vs : List Bool) (g : Gate) → Refers k g → ((j : ℕ) → j < k → a (suc j) ≡ get_or vs j false) → (g ≡ Input → a (suc k) ≡ get_or inputs next false) → consistent a k g ≡ true → a (suc k) ≡ gate_value inputs next vs g
+gate-holds : (a : ℕ → Bool) (inputs : List Bool) (next k : ℕ) (vs : List Bool) (g : Gate) → Refers k g
+    → ((j : ℕ) → j < k → a (suc j) ≡ get_or vs j false) → (g ≡ Input → a (suc k) ≡ get_or inputs next false)
+    → consistent a k g ≡ true → a (suc k) ≡ gate_value inputs next vs g
 gate-holds a inputs next k vs (Constant b) r same input h = beq-same (a (suc k)) b h
 gate-holds a inputs next k vs Input r same input h = input refl
 gate-holds a inputs next k vs (Not x) r same input h = beq-same (a (suc k)) _ h ∙ ap not (same x.place r)
@@ -210,7 +240,9 @@ gate-holds a inputs next k vs (Binary operator x y) r same input h =
     ∙ ap (λ v. applied operator (at vs x) v) (same y.place r.1)
 
 -- and the other way round
-holds-gate : (a : ℕ → Bool) (inputs : List Bool) (next k : ℕ) (vs : List Bool) (g : Gate) → Refers k g → ((j : ℕ) → j < k → a (suc j) ≡ get_or vs j false) → a (suc k) ≡ gate_value inputs next vs g → consistent a k g ≡ true
+holds-gate : (a : ℕ → Bool) (inputs : List Bool) (next k : ℕ) (vs : List Bool) (g : Gate) → Refers k g
+    → ((j : ℕ) → j < k → a (suc j) ≡ get_or vs j false) → a (suc k) ≡ gate_value inputs next vs g
+    → consistent a k g ≡ true
 holds-gate a inputs next k vs (Constant b) r same h = same-beq (a (suc k)) b h
 holds-gate a inputs next k vs Input r same h = refl
 holds-gate a inputs next k vs (Not x) r same h = same-beq (a (suc k)) _ (h ∙ ap not (sym (same x.place r)))
@@ -223,7 +255,9 @@ no_gate : Gate
 no_gate = Constant false
 
 -- where each gate's clauses are true, the first nodes' variables have the nodes' values
-agrees_below : (net : List Gate) (a : ℕ → Bool) → IsNet net → ((k : ℕ) (d : Gate) → k < length net → consistent a (0 + k) (get_or net k d) ≡ true) → (k j : ℕ) → k ≤ length net → j < k → a (suc j) ≡ get_or (values_of (given a net) net) j false
+agrees_below : (net : List Gate) (a : ℕ → Bool) → IsNet net
+    → ((k : ℕ) (d : Gate) → k < length net → consistent a (0 + k) (get_or net k d) ≡ true) → (k j : ℕ) → k ≤ length net
+    → j < k → a (suc j) ≡ get_or (values_of (given a net) net) j false
 agrees_below net a is all zero j h i = absurd (omega arith)
 agrees_below net a is all (suc k) j h i =
     let inputs = given a net in
@@ -246,7 +280,8 @@ agrees_below net a is all (suc k) j h i =
     ]
 
 -- where the first nodes' variables have the nodes' values, each gate's clauses are true
-consistent_at : (net : List Gate) (a : ℕ → Bool) (inputs : List Bool) → IsNet net → Agrees net inputs a → (k : ℕ) (d : Gate) → k < length net → consistent a (0 + k) (get_or net k d) ≡ true
+consistent_at : (net : List Gate) (a : ℕ → Bool) (inputs : List Bool) → IsNet net → Agrees net inputs a
+    → (k : ℕ) (d : Gate) → k < length net → consistent a (0 + k) (get_or net k d) ≡ true
 consistent_at net a inputs is agrees k d h =
     let none : k ≡ 0 + k = omega arith in
     let g = get_or net k d in
@@ -261,14 +296,16 @@ abbrev pub all_clauses : List Gate → Node → List (List ℤ)
 all_clauses net root = clauses_from 0 net ++ clause_of_one (Is root) ∷ []
 
 -- the clauses are whole where all gates were passed
-pub finished : (net : List Gate) (root : Node) (k : ℕ) (front whole : List (List ℤ)) → length net ≤ k → front ≡ clauses_from 0 (take k net) → whole ≡ front ++ clause_of_one (Is root) ∷ [] → whole ≡ all_clauses net root
+pub finished : (net : List Gate) (root : Node) (k : ℕ) (front whole : List (List ℤ)) → length net ≤ k
+    → front ≡ clauses_from 0 (take k net) → whole ≡ front ++ clause_of_one (Is root) ∷ [] → whole ≡ all_clauses net root
 finished net root k front whole h f w =
     w ∙ ap (λ fs. fs ++ clause_of_one (Is root) ∷ []) (f ∙ ap (clauses_from 0) (take_all k net h))
 
 pub all-few : (net : List Gate) (root : Node) → length (all_clauses net root) ≤ 4 * length net + 1
 all-few net root = omega (arith, length_push (clauses_from 0 net) (clause_of_one (Is root)), clauses-few 0 net)
 
-pub all-named : (net : List Gate) (root : Node) → IsNet net → IsNode net root → All (NamesWithin (length net)) (all_clauses net root)
+pub all-named : (net : List Gate) (root : Node) → IsNet net → IsNode net root
+    → All (NamesWithin (length net)) (all_clauses net root)
 all-named net root is h =
     All-push (NamesWithin (length net)) (clauses_from 0 net) (clause_of_one (Is root))
     (clauses-names (length net) 0 net (omega arith) (λ k d i. let e : k ≡ 0 + k = omega arith in subst (λ p. Refers p (get_or net k d)) e (is.earlier k d i)))
@@ -278,7 +315,8 @@ one-true : (v : Bool) → ((v || false) && true) ≡ v
 one-true true = refl
 one-true false = refl
 
-pub extends_from_holds : (net : List Gate) (root : Node) (a : ℕ → Bool) → IsNet net → IsNode net root → Holds (all_clauses net root) a → Extends net root a
+pub extends_from_holds : (net : List Gate) (root : Node) (a : ℕ → Bool) → IsNet net → IsNode net root
+    → Holds (all_clauses net root) a → Extends net root a
 extends_from_holds net root a is within h =
     let front = clauses_from 0 net in
     let last = clause_of_one (Is root) ∷ [] in
@@ -286,7 +324,8 @@ extends_from_holds net root a is within h =
     let agrees : Agrees net (given a net) a = λ n i. agrees_below net a is (each-consistent a 0 net parts.0) (length net) n.place (omega arith) i in
     (sym (agrees root within) ∙ sym (one-true (a (suc root.place))) ∙ parts.1, agrees)
 
-pub holds_from_extends : (net : List Gate) (root : Node) (a : ℕ → Bool) → IsNet net → IsNode net root → Extends net root a → Holds (all_clauses net root) a
+pub holds_from_extends : (net : List Gate) (root : Node) (a : ℕ → Bool) → IsNet net → IsNode net root
+    → Extends net root a → Holds (all_clauses net root) a
 holds_from_extends net root a is within e =
     let front = clauses_from 0 net in
     let last = clause_of_one (Is root) ∷ [] in
@@ -296,7 +335,8 @@ holds_from_extends net root a is within e =
     (one-true (a (suc root.place)) ∙ e.1 root within ∙ e.0))
 
 -- the values of all nodes, as an assignment, give the inputs their values
-given-values : (net : List Gate) (inputs : List Bool) → IsNet net → length inputs ≡ inputs_of net → given (listed (values_of inputs net)) net ≡ inputs
+given-values : (net : List Gate) (inputs : List Bool) → IsNet net → length inputs ≡ inputs_of net
+    → given (listed (values_of inputs net)) net ≡ inputs
 given-values net inputs is size =
     let a = listed (values_of inputs net) in
     ext_get_or false (given a net) inputs (length-given a 0 net ∙ sym size) (λ i h.
@@ -312,7 +352,8 @@ given-values net inputs is size =
     ∙ ap (gate_value inputs (inputs_of (take k net)) (values_of inputs net)) e
     ∙ ap (λ n. get_or inputs n false) p.3)
 
-pub stands_for : (net : List Gate) (root : Node) (clauses : List (List ℤ)) → IsNet net → IsNode net root → clauses ≡ all_clauses net root → StandsFor net root clauses
+pub stands_for : (net : List Gate) (root : Node) (clauses : List (List ℤ)) → IsNet net → IsNode net root
+    → clauses ≡ all_clauses net root → StandsFor net root clauses
 stands_for net root clauses is within same =
     let one : (a : ℕ → Bool) → Extends net root a → Holds clauses a = λ a e. subst (λ f. Holds f a) (sym same) (holds_from_extends net root a is within e) in
     record {

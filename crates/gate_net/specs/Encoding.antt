@@ -43,7 +43,8 @@ Extends net root a = (node_value net (given a net) root ≡ true) × Agrees net 
 -- value; and all values of the inputs that make the root true stand in such an assignment
 pub record StandsFor (net : List Gate) (root : Node) (clauses : List (List ℤ)) : Type 0 where
   pub exact : (a : ℕ → Bool) → Holds clauses a ↔ Extends net root a
-  pub extended : (inputs : List Bool) → length inputs ≡ inputs_of net → node_value net inputs root ≡ true → (a : ℕ → Bool) × (given a net ≡ inputs) × Holds clauses a
+  pub extended : (inputs : List Bool) → length inputs ≡ inputs_of net → node_value net inputs root ≡ true
+      → (a : ℕ → Bool) × (given a net ≡ inputs) × Holds clauses a
 
 -- internal: a literal as a number, the node of its variable, and the clauses of gates
 abbrev pub number_of : Literal → ℤ
@@ -64,9 +65,13 @@ abbrev pub clause_of_three : Literal → Literal → Literal → List ℤ
 clause_of_three x y z = number_of x ∷ number_of y ∷ number_of z ∷ []
 
 abbrev pub operator_clauses : Operator → Node → Node → Node → List (List ℤ)
-operator_clauses And n x y = clause_of_two (IsNot n) (Is x) ∷ clause_of_two (IsNot n) (Is y) ∷ clause_of_three (Is n) (IsNot x) (IsNot y) ∷ []
-operator_clauses Or n x y = clause_of_two (Is n) (IsNot x) ∷ clause_of_two (Is n) (IsNot y) ∷ clause_of_three (IsNot n) (Is x) (Is y) ∷ []
-operator_clauses Xor n x y = clause_of_three (IsNot n) (Is x) (Is y) ∷ clause_of_three (IsNot n) (IsNot x) (IsNot y) ∷ clause_of_three (Is n) (IsNot x) (Is y) ∷ clause_of_three (Is n) (Is x) (IsNot y) ∷ []
+operator_clauses And n x y =
+    clause_of_two (IsNot n) (Is x) ∷ clause_of_two (IsNot n) (Is y) ∷ clause_of_three (Is n) (IsNot x) (IsNot y) ∷ []
+operator_clauses Or n x y =
+    clause_of_two (Is n) (IsNot x) ∷ clause_of_two (Is n) (IsNot y) ∷ clause_of_three (IsNot n) (Is x) (Is y) ∷ []
+operator_clauses Xor n x y =
+    clause_of_three (IsNot n) (Is x) (Is y) ∷ clause_of_three (IsNot n) (IsNot x) (IsNot y)
+    ∷ clause_of_three (Is n) (IsNot x) (Is y) ∷ clause_of_three (Is n) (Is x) (IsNot y) ∷ []
 
 abbrev pub gate_clauses : Node → Gate → List (List ℤ)
 gate_clauses n (Constant true) = clause_of_one (Is n) ∷ []

@@ -38,7 +38,8 @@ one_if_input (Binary operator a b) = 0
 -- the values of the nodes so far, and those of further gates
 abbrev pub values_after : List Bool → ℕ → List Bool → List Gate → List Bool
 values_after inputs next values [] = values
-values_after inputs next values (g ∷ gates) = values_after inputs (next + one_if_input g) (values ++ gate_value inputs next values g ∷ []) gates
+values_after inputs next values (g ∷ gates) =
+    values_after inputs (next + one_if_input g) (values ++ gate_value inputs next values g ∷ []) gates
 
 -- the values of all nodes, from values of the inputs in the order in which these were made
 abbrev pub values_of : List Bool → List Gate → List Bool
@@ -82,9 +83,10 @@ pub record Continues (before after : List Gate) : Type 0 where
 
 -- each node of the earlier net has the same value in the later one
 abbrev pub KeepsValues : List Gate → List Gate → Type 0
-KeepsValues before after = (n : Node) → IsNode before n → (inputs : List Bool) → node_value after inputs n ≡ node_value before inputs n
+KeepsValues before after =
+    (n : Node) → IsNode before n → (inputs : List Bool) → node_value after inputs n ≡ node_value before inputs n
 
--- the net kept its nodes and their values, and has at most so many new ones, none of them an input
+-- the net kept its nodes and their values, and has at most that many new ones, none of them an input
 pub record Grows (most : ℕ) (before after : List Gate) : Type 0 where
   pub begins : Continues before after
   pub kept : KeepsValues before after

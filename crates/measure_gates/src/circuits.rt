@@ -44,7 +44,7 @@ pub(crate) fn closure_clauses(alloc: Global, objects: usize) -> Result<usize, Al
     Ok(clauses.clauses.len())
 }
 
-/// How many nodes the sum of so many numbers adds.
+/// How many nodes the sum of that many numbers adds.
 pub(crate) fn sum_nodes(alloc: Global, numbers: usize) -> Result<usize, AllocError>
     requires { numbers ≤ 1000 }
 {
@@ -98,7 +98,7 @@ fn relation(net: &mut Net, objects: usize) -> Result<Matrix, AllocError>
     Ok(Matrix { rows })
 }
 
-// So many parts of a sum: an input, and the number that counts where it is true.
+// That many parts of a sum: an input, and the number that counts where it is true.
 fn parts(net: &mut Net, times: usize) -> Result<Vec<(Node, Bits)>, AllocError>
     requires times { times ≤ 1000 }
     requires room { nodes_of net.old + 1000 ≤ 2 ^ 28 }

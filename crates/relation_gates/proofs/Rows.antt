@@ -13,29 +13,38 @@ use Rattle.relation_gates.specs.Relations.{member, edge, IsRow, IsMatrix}
 use Rattle.relation_gates.specs.Sets.{some_below}
 
 -- a row stays one in a net that continues
-pub row-on : (net after : List Gate) (u : ℕ) (row : List Node) → Continues net after → IsRow net u row → IsRow after u row
+pub row-on : (net after : List Gate) (u : ℕ) (row : List Node) → Continues net after → IsRow net u row
+    → IsRow after u row
 row-on net after u row f is = record { width = is.width; nodes = All-weaker (IsNode net) (IsNode after) (λ n. stays net after n f) row is.nodes }
 
-pub rows-on : (net after : List Gate) (u : ℕ) (rows : List (List Node)) → Continues net after → All (IsRow net u) rows → All (IsRow after u) rows
+pub rows-on : (net after : List Gate) (u : ℕ) (rows : List (List Node)) → Continues net after → All (IsRow net u) rows
+    → All (IsRow after u) rows
 rows-on net after u rows f all = All-weaker (IsRow net u) (IsRow after u) (λ row. row-on net after u row f) rows all
 
-pub matrix-on : (net after : List Gate) (u : ℕ) (m : List (List Node)) → Continues net after → IsMatrix net u m → IsMatrix after u m
+pub matrix-on : (net after : List Gate) (u : ℕ) (m : List (List Node)) → Continues net after → IsMatrix net u m
+    → IsMatrix after u m
 matrix-on net after u m f is = record { height = is.height; rows = rows-on net after u m f is.rows }
 
 -- one more node, where the net has grown meanwhile
-pub nodes-push : (net after : List Gate) (done pushed : List Node) (n : Node) → pushed ≡ done ++ n ∷ [] → Continues net after → All (IsNode net) done → IsNode after n → All (IsNode after) pushed
+pub nodes-push : (net after : List Gate) (done pushed : List Node) (n : Node) → pushed ≡ done ++ n ∷ []
+    → Continues net after → All (IsNode net) done → IsNode after n → All (IsNode after) pushed
 nodes-push net after done pushed n e f all h =
     All-same (IsNode after) pushed (done ++ n ∷ []) e (All-push (IsNode after) done n (All-weaker (IsNode net) (IsNode after) (λ m. stays net after m f) done all) h)
 
-pub rows-push : (net after : List Gate) (u : ℕ) (done pushed : List (List Node)) (row : List Node) → pushed ≡ done ++ row ∷ [] → Continues net after → All (IsRow net u) done → IsRow after u row → All (IsRow after u) pushed
+pub rows-push : (net after : List Gate) (u : ℕ) (done pushed : List (List Node)) (row : List Node)
+    → pushed ≡ done ++ row ∷ [] → Continues net after → All (IsRow net u) done → IsRow after u row
+    → All (IsRow after u) pushed
 rows-push net after u done pushed row e f all h =
     All-same (IsRow after u) pushed (done ++ row ∷ []) e (All-push (IsRow after u) done row (rows-on net after u done f all) h)
 
-pub size-push : {X : Type 0} (done pushed : List X) (n : X) (i : ℕ) → pushed ≡ done ++ n ∷ [] → length done ≡ i → length pushed ≡ i + 1
+pub size-push : {X : Type 0} (done pushed : List X) (n : X) (i : ℕ) → pushed ≡ done ++ n ∷ [] → length done ≡ i
+    → length pushed ≡ i + 1
 size-push done pushed n i e size = ap length e ∙ length_push done n ∙ ap (λ k. k + 1) size
 
 -- what each member is, with one more
-pub member-next : (value : Node → Bool) (done pushed : List Node) (n : Node) (i : ℕ) (test : ℕ → Bool) → pushed ≡ done ++ n ∷ [] → length done ≡ i → ((y : ℕ) → y < i → member value done y ≡ test y) → value n ≡ test i → (y : ℕ) → y < i + 1 → member value pushed y ≡ test y
+pub member-next : (value : Node → Bool) (done pushed : List Node) (n : Node) (i : ℕ) (test : ℕ → Bool)
+    → pushed ≡ done ++ n ∷ [] → length done ≡ i → ((y : ℕ) → y < i → member value done y ≡ test y) → value n ≡ test i
+    → (y : ℕ) → y < i + 1 → member value pushed y ≡ test y
 member-next value done pushed n i test e size before here y h =
     let none : Node = record { place = 0 } in
     ap (λ ns. member value ns y) e ∙ elim (cases_lt y i) [
@@ -45,7 +54,10 @@ member-next value done pushed n i test e size before here y h =
           ap value (get_or_push done n none y (size ∙ same)) ∙ here ∙ ap test same
     ]
 
-pub edge-next : (value : Node → Bool) (done pushed : List (List Node)) (row : List Node) (i u : ℕ) (test : ℕ → ℕ → Bool) → pushed ≡ done ++ row ∷ [] → length done ≡ i → ((x y : ℕ) → x < i → y < u → edge value done x y ≡ test x y) → ((y : ℕ) → y < u → member value row y ≡ test i y) → (x y : ℕ) → x < i + 1 → y < u → edge value pushed x y ≡ test x y
+pub edge-next : (value : Node → Bool) (done pushed : List (List Node)) (row : List Node) (i u : ℕ)
+    (test : ℕ → ℕ → Bool) → pushed ≡ done ++ row ∷ [] → length done ≡ i
+    → ((x y : ℕ) → x < i → y < u → edge value done x y ≡ test x y) → ((y : ℕ) → y < u → member value row y ≡ test i y)
+    → (x y : ℕ) → x < i + 1 → y < u → edge value pushed x y ≡ test x y
 edge-next value done pushed row i u test e size before here x y h k =
     ap (λ m. edge value m x y) e ∙ elim (cases_lt x i) [
       | inl below ↦ ap (λ r. member value r y) (get_or_append_left done (row ∷ []) [] x (omega arith)) ∙ before x y below k
@@ -84,22 +96,26 @@ pub record RowAt (net : List Gate) (u : ℕ) (m : List (List Node)) (x : ℕ) (r
   pub own : IsRow net u row
   pub is : row ≡ get_or m x []
 
-pub row-at : (net : List Gate) (u : ℕ) (m whole : List (List Node)) (x : ℕ) (row : List Node) → m ≡ whole → IsMatrix net u whole → x < length m → row ≡ get_or m x row → RowAt net u m x row
+pub row-at : (net : List Gate) (u : ℕ) (m whole : List (List Node)) (x : ℕ) (row : List Node) → m ≡ whole
+    → IsMatrix net u whole → x < length m → row ≡ get_or m x row → RowAt net u m x row
 row-at net u m whole x row same is h e =
     let all : All (IsRow net u) m = All-same (IsRow net u) m whole same is.rows in
     record { own = subst (IsRow net u) (sym e) (all x row h); is = get_or_read m x row h e [] }
 
 -- a node of a matrix
-pub entry-is : (net : List Gate) (u : ℕ) (m : List (List Node)) (x y : ℕ) → IsMatrix net u m → x < u → y < u → IsNode net (get_or (get_or m x []) y (record { place = 0 }))
+pub entry-is : (net : List Gate) (u : ℕ) (m : List (List Node)) (x y : ℕ) → IsMatrix net u m → x < u → y < u
+    → IsNode net (get_or (get_or m x []) y (record { place = 0 }))
 entry-is net u m x y is h k =
     let row = is.rows x [] (omega (arith, is.height)) in
     row.nodes y (record { place = 0 }) (omega (arith, row.width))
 
-pub some-more : (test : ℕ → Bool) (k : ℕ) (found here more : Bool) → found ≡ some_below k test → here ≡ test k → more ≡ (found || here) → more ≡ some_below (k + 1) test
+pub some-more : (test : ℕ → Bool) (k : ℕ) (found here more : Bool) → found ≡ some_below k test → here ≡ test k
+    → more ≡ (found || here) → more ≡ some_below (k + 1) test
 some-more test k found here more e f g =
     g ∙ ap (λ b. b || here) e ∙ ap (λ b. some_below k test || b) f ∙ sym (ap (λ n. some_below n test) (add-one k))
 
-pub some-iff : (n : ℕ) (first second : ℕ → Bool) (b : Bool) → b ≡ some_below n (λ x. first x && second x) → (b ≡ true) ↔ ((x : ℕ) × (x < n) × (first x ≡ true) × (second x ≡ true))
+pub some-iff : (n : ℕ) (first second : ℕ → Bool) (b : Bool) → b ≡ some_below n (λ x. first x && second x)
+    → (b ≡ true) ↔ ((x : ℕ) × (x < n) × (first x ≡ true) × (second x ≡ true))
 some-iff n first second b e = (
   λ h. let p = from-some n (λ x. first x && second x) (sym e ∙ h) in
       let parts = and_parts (first p.0) (second p.0) p.2 in

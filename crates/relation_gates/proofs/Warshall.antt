@@ -4,10 +4,12 @@ use Rattle.std.specs.Prelude.{IsTrue}
 use Rattle.std.proofs.lemmas.Bool.{cases_lt, or_cases, or_left, or_right, and_parts, and_from}
 use Rattle.relation_gates.specs.Relations.{Leads, IsPath}
 
-path-cons : (edges : ℕ → ℕ → Bool) (below x y z : ℕ) → IsTrue (edges x y) → y < below → IsPath edges below y z → IsPath edges below x z
+path-cons : (edges : ℕ → ℕ → Bool) (below x y z : ℕ) → IsTrue (edges x y) → y < below → IsPath edges below y z
+    → IsPath edges below x z
 path-cons edges below x y z e h p = (suc p.0, (y, h, e, p.1))
 
-leads-wider : (edges : ℕ → ℕ → Bool) (below more x z : ℕ) → Leads edges below more x z → Leads edges (below + 1) more x z
+leads-wider : (edges : ℕ → ℕ → Bool) (below more x z : ℕ) → Leads edges below more x z
+    → Leads edges (below + 1) more x z
 leads-wider edges below zero x z p = p
 leads-wider edges below (suc more) x z p = (p.0, omega (arith, p.1), p.2, leads-wider edges below more p.0 z p.3)
 
@@ -15,12 +17,14 @@ path-wider : (edges : ℕ → ℕ → Bool) (below x z : ℕ) → IsPath edges b
 path-wider edges below x z p = (p.0, leads-wider edges below p.0 x z p.1)
 
 -- a path, and then another from its end, which is below the bound
-leads-then : (edges : ℕ → ℕ → Bool) (below more x y z : ℕ) → Leads edges below more x y → y < below → IsPath edges below y z → IsPath edges below x z
+leads-then : (edges : ℕ → ℕ → Bool) (below more x y z : ℕ) → Leads edges below more x y → y < below
+    → IsPath edges below y z → IsPath edges below x z
 leads-then edges below zero x y z p h q = path-cons edges below x y z p h q
 leads-then edges below (suc more) x y z p h q = path-cons edges below x p.0 z p.2 p.1 (leads-then edges below more p.0 y z p.3 h q)
 
 -- a path by way of one more object goes without it, or to it and on from it
-split : (edges : ℕ → ℕ → Bool) (below more x z : ℕ) → Leads edges (below + 1) more x z → IsPath edges below x z ⊎ (IsPath edges below x below × IsPath edges below below z)
+split : (edges : ℕ → ℕ → Bool) (below more x z : ℕ) → Leads edges (below + 1) more x z
+    → IsPath edges below x z ⊎ (IsPath edges below x below × IsPath edges below below z)
 split edges below zero x z p = inl (zero, p)
 split edges below (suc more) x z p =
     let rest = split edges below more p.0 z p.3 in
@@ -47,7 +51,9 @@ pub path-none : (edges : ℕ → ℕ → Bool) (x z : ℕ) → IsTrue (edges x z
 path-none edges x z = (λ t. (zero, t), λ p. only edges x z p.0 p.1)
 
 -- one more object on the way
-pub path-next : (edges : ℕ → ℕ → Bool) (k x z : ℕ) (old to from new : Bool) → (IsTrue old ↔ IsPath edges k x z) → (IsTrue to ↔ IsPath edges k x k) → (IsTrue from ↔ IsPath edges k k z) → new ≡ (old || (to && from)) → IsTrue new ↔ IsPath edges (k + 1) x z
+pub path-next : (edges : ℕ → ℕ → Bool) (k x z : ℕ) (old to from new : Bool) → (IsTrue old ↔ IsPath edges k x z)
+    → (IsTrue to ↔ IsPath edges k x k) → (IsTrue from ↔ IsPath edges k k z) → new ≡ (old || (to && from))
+    → IsTrue new ↔ IsPath edges (k + 1) x z
 path-next edges k x z old to from new o t f e = (
   λ h. elim (or_cases old (to && from) (sym e ∙ h)) [
     | inl a ↦ path-wider edges k x z (o.0 a)

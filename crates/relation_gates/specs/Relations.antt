@@ -31,7 +31,7 @@ IsImage value u set relation y = (x : ℕ) × (x < u) × IsTrue (member value se
 abbrev pub IsJoined : (Node → Bool) → ℕ → List (List Node) → List (List Node) → ℕ → ℕ → Type 0
 IsJoined value u first second x z = (y : ℕ) × (y < u) × IsTrue (edge value first x y) × IsTrue (edge value second y z)
 
--- so many edges, and one more, lead from x to z, by way of objects below a number
+-- that many edges, and one more, lead from x to z, by way of objects below a number
 abbrev pub Leads : (ℕ → ℕ → Bool) → ℕ → ℕ → ℕ → ℕ → Type 0
 Leads edges below zero x z = IsTrue (edges x z)
 Leads edges below (suc more) x z = (y : ℕ) × (y < below) × IsTrue (edges x y) × Leads edges below more y z

@@ -44,7 +44,8 @@ fn by_way_of(net: &mut Net, paths: &Matrix, k: usize) -> Result<Matrix, AllocErr
     requires room { nodes_of net.old + 2 * length paths.now * length paths.now ≤ 2 ^ 28 }
     ensures grows { Grows (2 * length paths.now * length paths.now) net.old net.new }
     ensures matrix { IfOk result (λ matrix. IsMatrix net.new (length paths.now) matrix) }
-    ensures value { IfOk result (λ matrix. Always net.new (λ value. (x z : ℕ) → x < length paths.now → z < length paths.now →
+    ensures value { IfOk result
+        (λ matrix. Always net.new (λ value. (x z : ℕ) → x < length paths.now → z < length paths.now →
         edge value matrix x z ≡ (edge value paths.now x z || (edge value paths.now x k && edge value paths.now k z)))) }
 {
     let from = paths.rows();

@@ -10,7 +10,7 @@ ghost use Rattle.bit_gates.specs.Bits.{IsBits};
 mod arithmetic;
 mod pairs;
 
-use arithmetic::{Call, Comparison, expected, factor, is_so};
+use arithmetic::{Comparison, NumberCall, expected, factor, is_so};
 use bit_gates::{Bits, add, constant, count, equal, less, minus, neg, sum, times_constant};
 use gate_net::{Net, Node};
 use pairs::{FIRSTS, RANDOM, SECONDS};
@@ -18,12 +18,12 @@ use std::alloc::{AllocError, Global};
 use std::process::Abort;
 use std::test::Fail;
 
-const CALLS: [Call; 5] = [
-    Call::Add,
-    Call::Minus,
-    Call::Neg,
-    Call::TimesConstant,
-    Call::Count,
+const CALLS: [NumberCall; 5] = [
+    NumberCall::Add,
+    NumberCall::Minus,
+    NumberCall::Neg,
+    NumberCall::TimesConstant,
+    NumberCall::Count,
 ];
 
 // The number that the bits mean where the inputs have these values.
@@ -44,7 +44,7 @@ fn read(net: &Net, bits: &Bits, inputs: &[bool]) -> Result<i128, AllocError>
 }
 
 // What a call makes of two numbers, or of the first alone.
-fn made(net: &mut Net, call: Call, a: &Bits, b: &Bits, k: i64) -> Result<Bits, AllocError>
+fn made(net: &mut Net, call: NumberCall, a: &Bits, b: &Bits, k: i64) -> Result<Bits, AllocError>
     requires first { IsBits net.old a.now }
     requires second { IsBits net.old b.now }
     requires small { (a.now.most ≤ 2 ^ 80) × (b.now.most ≤ 2 ^ 80) }
@@ -55,16 +55,16 @@ fn made(net: &mut Net, call: Call, a: &Bits, b: &Bits, k: i64) -> Result<Bits, A
     ensures bits { IfOk result (λ bits. IsBits net.new bits) }
 {
     match call {
-        Call::Add => add(net, a, b),
-        Call::Minus => minus(net, a, b),
-        Call::Neg => neg(net, a),
-        Call::TimesConstant => times_constant(net, k, a),
-        Call::Count => count(net, a.nodes.as_slice()),
+        NumberCall::Add => add(net, a, b),
+        NumberCall::Minus => minus(net, a, b),
+        NumberCall::Neg => neg(net, a),
+        NumberCall::TimesConstant => times_constant(net, k, a),
+        NumberCall::Count => count(net, a.nodes.as_slice()),
     }
 }
 
 // The number that a call makes of two numbers.
-fn answer(alloc: Global, call: Call, x: i128, y: i128, k: i64) -> Result<i128, AllocError>
+fn answer(alloc: Global, call: NumberCall, x: i128, y: i128, k: i64) -> Result<i128, AllocError>
     requires first { unsigned_abs x ≤ 2 ^ 80 }
     requires second { unsigned_abs y ≤ 2 ^ 80 }
     requires factor { unsigned_abs k ≤ 2 ^ 31 }
@@ -203,7 +203,7 @@ fn agrees_on_random_numbers(rt: HostRuntime) -> Result<(), Fail> {
 fn totals_and_products_are_not_cut_off(rt: HostRuntime) -> Result<(), Fail> {
     let alloc = rt.alloc();
     assert_eq!(rt; repeated_total(alloc)?, 429496729400);
-    let product = answer(alloc, Call::TimesConstant, -2147483648, 0, -3)?;
+    let product = answer(alloc, NumberCall::TimesConstant, -2147483648, 0, -3)?;
     assert_eq!(rt; product, 6442450944);
     Ok(())
 }

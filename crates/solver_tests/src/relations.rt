@@ -7,19 +7,19 @@ ghost use Rattle.relation_gates.specs.Relations.{IsMatrix, IsRow};
 mod plain;
 
 use gate_net::{Net, Node};
-use plain::{Call, OBJECTS, SetCall, expected, expected_set, random};
+use plain::{OBJECTS, RelationCall, SetCall, expected, expected_set, random};
 use relation_gates::{Matrix, Row};
 use std::alloc::{AllocError, Global};
 use std::process::Abort;
 use std::test::Fail;
 
-const CALLS: [Call; 6] = [
-    Call::Union,
-    Call::Inter,
-    Call::Minus,
-    Call::Join,
-    Call::Converse,
-    Call::Closure,
+const CALLS: [RelationCall; 6] = [
+    RelationCall::Union,
+    RelationCall::Inter,
+    RelationCall::Minus,
+    RelationCall::Join,
+    RelationCall::Converse,
+    RelationCall::Closure,
 ];
 
 const SET_CALLS: [SetCall; 4] = [
@@ -29,7 +29,7 @@ const SET_CALLS: [SetCall; 4] = [
     SetCall::Image,
 ];
 
-// An input with a value, which is put behind those of the earlier inputs.
+// An input with a value, which is put after those of the earlier inputs.
 fn input(net: &mut Net, inputs: &mut Vec<bool>, value: bool) -> Result<Node, AllocError>
     requires room { nodes_of net.old < 2 ^ 28 }
     requires given { length inputs.old.items ≡ inputs_of net.old }
@@ -90,7 +90,7 @@ fn relation(
 }
 
 // What a call makes of two relations.
-fn made(net: &mut Net, call: Call, a: &Matrix, b: &Matrix) -> Result<Matrix, AllocError>
+fn made(net: &mut Net, call: RelationCall, a: &Matrix, b: &Matrix) -> Result<Matrix, AllocError>
     requires first { IsMatrix net.old (length a.now) a.now }
     requires second { IsMatrix net.old (length a.now) b.now }
     requires small { length a.now ≤ 12 }
@@ -99,12 +99,12 @@ fn made(net: &mut Net, call: Call, a: &Matrix, b: &Matrix) -> Result<Matrix, All
     ensures matrix { IfOk result (λ matrix. IsMatrix net.new (length a.now) matrix) }
 {
     match call {
-        Call::Union => relation_gates::union(net, a, b),
-        Call::Inter => relation_gates::inter(net, a, b),
-        Call::Minus => relation_gates::minus(net, a, b),
-        Call::Join => relation_gates::join(net, a, b),
-        Call::Converse => relation_gates::converse(net, a),
-        Call::Closure => relation_gates::closure(net, a),
+        RelationCall::Union => relation_gates::union(net, a, b),
+        RelationCall::Inter => relation_gates::inter(net, a, b),
+        RelationCall::Minus => relation_gates::minus(net, a, b),
+        RelationCall::Join => relation_gates::join(net, a, b),
+        RelationCall::Converse => relation_gates::converse(net, a),
+        RelationCall::Closure => relation_gates::closure(net, a),
     }
 }
 
@@ -157,7 +157,7 @@ fn read(net: &Net, matrix: &Matrix, inputs: &[bool]) -> Result<[u16; OBJECTS], A
 // The relation that a call makes of two relations.
 fn answer(
     alloc: Global,
-    call: Call,
+    call: RelationCall,
     first: &[u16; OBJECTS],
     second: &[u16; OBJECTS],
     objects: usize,
@@ -258,7 +258,7 @@ fn paths_are_of_any_length(rt: HostRuntime) -> Result<(), Fail> {
     ];
     for (objects, edges, paths) in rows {
         assert!(rt; objects <= OBJECTS);
-        let found = answer(rt.alloc(), Call::Closure, &edges, &edges, objects)?;
+        let found = answer(rt.alloc(), RelationCall::Closure, &edges, &edges, objects)?;
         assert_eq!(rt; found, paths, "{objects} objects");
     }
     Ok(())

@@ -4,7 +4,7 @@ use std::process::Abort;
 use std::test::Fail;
 
 #[derive(Clone, Copy, Debug, PartialEq, Eq)]
-enum Answer {
+enum Expected {
     Sat,
     Unsat,
     // with that many lines
@@ -14,18 +14,18 @@ enum Answer {
 const FOUR: &[&[i32]] = &[&[1, 2], &[-1, 2], &[1, -2], &[-1, -2]];
 
 // The number of variables, clauses over them, the limit, and each answer that may come.
-const ROWS: [(u32, &[&[i32]], u32, &[Answer]); 7] = [
-    (0, &[], 1, &[Answer::Sat]),
-    (3, &[], 1, &[Answer::Sat]),
-    (3, &[&[1], &[-1]], 2, &[Answer::Unsat]),
-    (3, FOUR, 100, &[Answer::Unsat]),
-    (3, FOUR, 1, &[Answer::Unsat, Answer::Spent(1)]),
-    (3, &[&[1, 2], &[-1, 2], &[1, -2]], 100, &[Answer::Sat]),
+const ROWS: [(u32, &[&[i32]], u32, &[Expected]); 7] = [
+    (0, &[], 1, &[Expected::Sat]),
+    (3, &[], 1, &[Expected::Sat]),
+    (3, &[&[1], &[-1]], 2, &[Expected::Unsat]),
+    (3, FOUR, 100, &[Expected::Unsat]),
+    (3, FOUR, 1, &[Expected::Unsat, Expected::Spent(1)]),
+    (3, &[&[1, 2], &[-1, 2], &[1, -2]], 100, &[Expected::Sat]),
     (
         3,
         &[&[1, 2], &[-2, 3], &[-3, 1]],
         1,
-        &[Answer::Sat, Answer::Spent(1)],
+        &[Expected::Sat, Expected::Spent(1)],
     ),
 ];
 
@@ -38,13 +38,13 @@ fn solves(rt: HostRuntime) -> Result<(), Fail> {
             Solved::Sat(values) => {
                 assert_eq!(rt; values.len(), variables as usize, "row {row}");
                 assert!(rt; clauses.satisfied(values.as_slice()), "row {row}");
-                Answer::Sat
+                Expected::Sat
             }
             Solved::Unsat(log) => {
                 assert!(rt; log.len() <= limit as usize + 1, "row {row}");
-                Answer::Unsat
+                Expected::Unsat
             }
-            Solved::Spent(log) => Answer::Spent(log.len()),
+            Solved::Spent(log) => Expected::Spent(log.len()),
         };
         assert!(rt; answers.contains(&answer), "row {row}: {answer:?}");
     }

@@ -4,7 +4,7 @@ ghost use Rattle.std.specs.Prelude.{◌≤◌, ◌*◌, ◌^◌, ◌≤ℤ◌, p
 
 /// The calls that make a number.
 #[derive(Clone, Copy, Debug)]
-pub(crate) enum Call {
+pub(crate) enum NumberCall {
     Add,
     Minus,
     Neg,
@@ -20,13 +20,13 @@ pub(crate) enum Comparison {
 }
 
 /// The number that a call is to make, where the constant is k.
-pub(crate) fn expected(call: Call, x: i128, y: i128, k: i64) -> i128 {
+pub(crate) fn expected(call: NumberCall, x: i128, y: i128, k: i64) -> i128 {
     match call {
-        Call::Add => x.wrapping_add(y),
-        Call::Minus => x.wrapping_sub(y),
-        Call::Neg => x.wrapping_neg(),
-        Call::TimesConstant => i128::from(k).wrapping_mul(x),
-        Call::Count => i128::from(ones(x)),
+        NumberCall::Add => x.wrapping_add(y),
+        NumberCall::Minus => x.wrapping_sub(y),
+        NumberCall::Neg => x.wrapping_neg(),
+        NumberCall::TimesConstant => i128::from(k).wrapping_mul(x),
+        NumberCall::Count => i128::from(ones(x)),
     }
 }
 

@@ -7,7 +7,7 @@ pub(crate) const OBJECTS: usize = 12;
 
 /// The relations that are made of two others.
 #[derive(Clone, Copy, Debug)]
-pub(crate) enum Call {
+pub(crate) enum RelationCall {
     Union,
     Inter,
     Minus,
@@ -51,19 +51,19 @@ fn digits(number: u64) -> u16 {
 
 /// The rows of the relation that a call is to make.
 pub(crate) fn expected(
-    call: Call,
+    call: RelationCall,
     first: &[u16; OBJECTS],
     second: &[u16; OBJECTS],
 ) -> [u16; OBJECTS] {
     let mut rows = [0; OBJECTS];
     for x in 0..OBJECTS {
         rows[x] = match call {
-            Call::Union => first[x] | second[x],
-            Call::Inter => first[x] & second[x],
-            Call::Minus => first[x] & !second[x],
-            Call::Join => image(first[x], second),
-            Call::Converse => column(first, x),
-            Call::Closure => reached(first[x], first),
+            RelationCall::Union => first[x] | second[x],
+            RelationCall::Inter => first[x] & second[x],
+            RelationCall::Minus => first[x] & !second[x],
+            RelationCall::Join => image(first[x], second),
+            RelationCall::Converse => column(first, x),
+            RelationCall::Closure => reached(first[x], first),
         };
     }
     rows

@@ -8,5 +8,6 @@ abbrev pub invariant-loop-i : goal.invariant-loop-i
 invariant-loop-i l = record {
   grows : Grows (2 * l.i - 1) l.fn.net l.net;
   node : IsNode l.net l.differ;
-  value : Always l.net (λ value. Differs (value l.differ) (unsigned (map value (take l.i l.xs))) (unsigned (map value (take l.i l.ys))));
+  value : Always l.net
+      (λ value. Differs (value l.differ) (unsigned (map value (take l.i l.xs))) (unsigned (map value (take l.i l.ys))));
 }

@@ -11,5 +11,6 @@ invariant-loop-i l = record {
   width : length l.values.items ≡ l.i;
   nodes : All (IsNode l.net) l.values.items;
   carry : IsNode l.net l.carry;
-  value : Always l.net (λ value. IsJoin l.rule (unsigned (map value (take l.i l.xs))) (unsigned (map value (take l.i l.ys))) (unsigned (map value l.values.items)) (bit (value l.carry) * 2 ^ l.i));
+  value : Always l.net (λ value. IsJoin l.rule (unsigned (map value (take l.i l.xs)))
+      (unsigned (map value (take l.i l.ys))) (unsigned (map value l.values.items)) (bit (value l.carry) * 2 ^ l.i));
 }

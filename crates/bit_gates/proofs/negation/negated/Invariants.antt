@@ -10,5 +10,6 @@ invariant-loop-i l = record {
   width : length l.values.items ≡ l.i;
   nodes : All (IsNode l.net) l.values.items;
   borrow : IsNode l.net l.borrow;
-  value : Always l.net (λ value. unsigned (map value l.values.items) + unsigned (map value (take l.i l.ys)) ≡ bit (value l.borrow) * 2 ^ l.i);
+  value : Always l.net (λ value. unsigned (map value l.values.items) + unsigned (map value (take l.i l.ys))
+      ≡ bit (value l.borrow) * 2 ^ l.i);
 }

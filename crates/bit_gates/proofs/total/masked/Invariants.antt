@@ -9,5 +9,6 @@ invariant-loop-digit l = record {
   grows : Grows l.digit-index l.fn.net l.net;
   width : length l.nodes.items ≡ l.digit-index;
   nodes : All (IsNode l.net) l.nodes.items;
-  value : Always l.net (λ value. map value l.nodes.items ≡ map (λ n. value l.node && value n) (take l.digit-index l.bits.nodes.items));
+  value : Always l.net
+      (λ value. map value l.nodes.items ≡ map (λ n. value l.node && value n) (take l.digit-index l.bits.nodes.items));
 }

@@ -5,16 +5,16 @@ use Rattle.std.proofs.lemmas.List.{get_or_read}
 use borrow.Author.Count.{below_more}
 use Rattle.clause_form.specs.Clauses.{has}
 use Rattle.clause_form.specs.Derivation.{HasUnits}
-use Rattle.clause_solver.specs.Watching.{IsWatched}
+use Rattle.clause_solver.specs.Propagation.{IsPropagated}
 use Rattle.clause_solver.specs.Learning.{clause_at, AllFalse}
-use Rattle.clause_solver.proofs.Watched.{IsWatched-grown, IsWatched-visited, all-next, visited-at, visited-reasons, visited-paired, visited-decisions, decisions-then, visited-extends, extends-then, extends-length}
+use Rattle.clause_solver.proofs.Propagated.{IsPropagated-grown, IsPropagated-visited, all-next, visited-at, visited-reasons, visited-paired, visited-decisions, decisions-then, visited-extends, extends-then, extends-length}
 use Rattle.clause_solver.proofs.propagate.propagate_one.Goals as goal
 
 pub loop-number-preserved : goal.loop-number-preserved
 loop-number-preserved c =
     let clauses = c.args.clauses.now in
     let i = c.loop-number.number-index in
-    let k = slice_index c.args.holders.now i in
+    let k = slice_index c.args.occurrences.now i in
     let t0 = c.loop-number.trail.literals in
     let t1 = c.visit.new.trail.literals in
     let rs0 = c.loop-number.reasons.items in
@@ -33,33 +33,33 @@ loop-number-preserved c =
       paired = visited-paired t0 t1 rs0 rs1 (clause_at clauses k) k v inv.paired;
       reasons = visited-reasons clauses t0 t1 rs0 rs1 k bound.1 v inv.paired inv.reasons;
       decisions = decisions-then c.args.reasons.now.items rs0 rs1 inv.decisions (visited-decisions t0 t1 rs0 rs1 (clause_at clauses k) k bound.0 v);
-      watched = λ n d within. IsWatched-grown c.args.head t0 t1 (slice_index_or clauses n d) ext (omega (arith, long, c.requires.head)) (inv.watched n d within);
-      visited = below_more (λ j. IsWatched (c.args.head + 1) t1 (clause_at clauses (slice_index c.args.holders.now j))) i
-          (λ j below. IsWatched-grown (c.args.head + 1) t0 t1 (clause_at clauses (slice_index c.args.holders.now j)) ext (omega (arith, long, c.requires.head)) (inv.visited j below))
-          (IsWatched-visited (c.args.head + 1) t1 (clause_at clauses k) units_at);
+      propagated = λ n d within. IsPropagated-grown c.args.head t0 t1 (slice_index_or clauses n d) ext (omega (arith, long, c.requires.head)) (inv.propagated n d within);
+      visited = below_more (λ j. IsPropagated (c.args.head + 1) t1 (clause_at clauses (slice_index c.args.occurrences.now j))) i
+          (λ j below. IsPropagated-grown (c.args.head + 1) t0 t1 (clause_at clauses (slice_index c.args.occurrences.now j)) ext (omega (arith, long, c.requires.head)) (inv.visited j below))
+          (IsPropagated-visited (c.args.head + 1) t1 (clause_at clauses k) units_at);
     }
 
 pub returns-then-branch-clause-reasons : goal.returns-then-branch-clause-reasons
 returns-then-branch-clause-reasons c =
     let clauses = c.args.clauses.now in
     let i = c.loop-number.number-index in
-    let k = slice_index c.args.holders.now i in
+    let k = slice_index c.args.occurrences.now i in
     let inv = c.loop-number.invariant in
     let bound = c.requires.numbers i c.loop-number-test.true in
     let lt : k - 1 < length clauses = omega (arith, bound.0, bound.1) in
     let v = visited-at clauses c.loop-number.trail.literals c.visit.new.trail.literals c.loop-number.reasons.items c.visit.new.reasons.items k c.index-clauses-number.result lt c.index-clauses-number.is c.in_ok-visit.ensures.change in
     visited-reasons clauses c.loop-number.trail.literals c.visit.new.trail.literals c.loop-number.reasons.items c.visit.new.reasons.items k bound.1 v inv.paired inv.reasons
 
-pub returns-clause-watched : goal.returns-clause-watched
-returns-clause-watched c =
+pub returns-clause-propagated : goal.returns-clause-propagated
+returns-clause-propagated c =
     let inv = c.loop-number.invariant in
-    all-next c.args.clauses.now c.args.trail.now.literals c.loop-number.trail.literals c.args.holders.now c.args.head inv.grown c.requires.head c.requires.holders inv.watched
+    all-next c.args.clauses.now c.args.trail.now.literals c.loop-number.trail.literals c.args.occurrences.now c.args.head inv.grown c.requires.head c.requires.occurrences inv.propagated
     (λ j below. inv.visited j (omega (arith, c.loop-number-test.false)))
 
 pub returns-then-branch-clause-decisions : goal.returns-then-branch-clause-decisions
 returns-then-branch-clause-decisions c =
     let clauses = c.args.clauses.now in
-    let k = slice_index c.args.holders.now c.loop-number.number-index in
+    let k = slice_index c.args.occurrences.now c.loop-number.number-index in
     let inv = c.loop-number.invariant in
     let bound = c.requires.numbers c.loop-number.number-index c.loop-number-test.true in
     let lt : k - 1 < length clauses = omega (arith, bound.0, bound.1) in
@@ -70,7 +70,7 @@ returns-then-branch-clause-decisions c =
 pub returns-then-branch-clause-conflict : goal.returns-then-branch-clause-conflict
 returns-then-branch-clause-conflict c =
     let clauses = c.args.clauses.now in
-    let k = slice_index c.args.holders.now c.loop-number.number-index in
+    let k = slice_index c.args.occurrences.now c.loop-number.number-index in
     let bound = c.requires.numbers c.loop-number.number-index c.loop-number-test.true in
     let lt : k - 1 < length clauses = omega (arith, bound.0, bound.1) in
     let all_false = OnTrue_at c.if-branch.true c.in_ok-visit.ensures.conflict in

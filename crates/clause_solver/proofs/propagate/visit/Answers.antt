@@ -5,7 +5,7 @@ use Rattle.std.proofs.lemmas.Bool.{and_parts}
 use Rattle.clause_form.specs.Clauses.{has, is_distinct}
 use Rattle.clause_form.specs.Derivation.{HasUnits}
 use Rattle.clause_solver.specs.Assigned.{at}
-use Rattle.clause_solver.specs.Watching.{IsScanned}
+use Rattle.clause_solver.specs.Propagation.{IsScanned}
 use Rattle.clause_solver.proofs.Places.{place-has}
 use Rattle.clause_solver.proofs.Scanning.{scanned-false, scanned-open, units-held, units-two}
 use Rattle.clause_solver.proofs.propagate.visit.Goals as goal

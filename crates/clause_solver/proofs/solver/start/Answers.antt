@@ -5,7 +5,8 @@ use Rattle.clause_form.proofs.Members.{is_literal-has}
 use Rattle.clause_solver.proofs.solver.start.Goals as goal
 
 -- the new clause is the given one at the place
-clause_is : (c : goal.In_ok-new) → c.in_ok-new.field-0 ≡ get_or c.args.clauses.now.clauses.items c.loop-clause.clause-index []
+clause_is : (c : goal.In_ok-new)
+    → c.in_ok-new.field-0 ≡ get_or c.args.clauses.now.clauses.items c.loop-clause.clause-index []
 clause_is c =
     let items = c.args.clauses.now.clauses.items in
     let i = c.loop-clause.clause-index in

@@ -8,5 +8,5 @@ invariant-loop-clause l = record {
   kept : IsSearch l.search;
   variables : l.search.trail.variables ≡ l.clauses.variables;
   clauses : l.search.clauses.items ≡ take l.clause-index l.clauses.clauses.items;
-  starts : l.search.starts.items ≡ [];
+  levels : l.search.levels.items ≡ [];
 }

@@ -8,5 +8,6 @@ abbrev pub invariant-loop-k : goal.invariant-loop-k
 invariant-loop-k l = record {
   grows : Grows (2 * length l.r * length l.r * l.k) l.fn.net l.net;
   matrix : IsMatrix l.net (length l.r) l.paths;
-  value : Always l.net (λ value. (x z : ℕ) → x < length l.r → z < length l.r → IsTrue (edge value l.paths x z) ↔ IsPath (edge value l.r) l.k x z);
+  value : Always l.net (λ value. (x z : ℕ) → x < length l.r → z < length l.r
+      → IsTrue (edge value l.paths x z) ↔ IsPath (edge value l.r) l.k x z);
 }

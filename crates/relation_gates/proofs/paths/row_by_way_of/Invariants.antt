@@ -9,5 +9,6 @@ invariant-loop-z l = record {
   grows : Grows (2 * l.z) l.fn.net l.net;
   width : length l.nodes.items ≡ l.z;
   nodes : All (IsNode l.net) l.nodes.items;
-  value : Always l.net (λ value. (z : ℕ) → z < l.z → member value l.nodes.items z ≡ (member value l.old z || (member value l.old l.k && member value l.on z)));
+  value : Always l.net (λ value. (z : ℕ) → z < l.z
+      → member value l.nodes.items z ≡ (member value l.old z || (member value l.old l.k && member value l.on z)));
 }

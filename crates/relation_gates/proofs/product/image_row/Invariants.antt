@@ -10,5 +10,6 @@ invariant-loop-y l = record {
   grows : Grows (2 * length l.rows * l.y) l.fn.net l.net;
   width : length l.nodes.items ≡ l.y;
   nodes : All (IsNode l.net) l.nodes.items;
-  value : Always l.net (λ value. (y : ℕ) → y < l.y → member value l.nodes.items y ≡ some_below (length l.rows) (λ x. member value l.set x && edge value l.rows x y));
+  value : Always l.net (λ value. (y : ℕ) → y < l.y
+      → member value l.nodes.items y ≡ some_below (length l.rows) (λ x. member value l.set x && edge value l.rows x y));
 }

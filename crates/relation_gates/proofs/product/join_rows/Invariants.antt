@@ -10,5 +10,6 @@ invariant-loop-x l = record {
   grows : Grows (2 * length l.s * length l.s * l.x) l.fn.net l.net;
   height : length l.rows.items ≡ l.x;
   rows : All (IsRow l.net (length l.s)) l.rows.items;
-  value : Always l.net (λ value. (x z : ℕ) → x < l.x → z < length l.s → edge value l.rows.items x z ≡ some_below (length l.s) (λ y. edge value l.first x y && edge value l.s y z));
+  value : Always l.net (λ value. (x z : ℕ) → x < l.x → z < length l.s
+      → edge value l.rows.items x z ≡ some_below (length l.s) (λ y. edge value l.first x y && edge value l.s y z));
 }

@@ -10,5 +10,6 @@ invariant-loop-x l = record {
   grows : Grows (2 * length l.first * l.x) l.fn.net l.net;
   height : length l.rows.items ≡ l.x;
   rows : All (IsRow l.net (length l.first)) l.rows.items;
-  value : Always l.net (λ value. (x y : ℕ) → x < l.x → y < length l.first → edge value l.rows.items x y ≡ combined l.operation (edge value l.first x y) (edge value l.second x y));
+  value : Always l.net (λ value. (x y : ℕ) → x < l.x → y < length l.first
+      → edge value l.rows.items x y ≡ combined l.operation (edge value l.first x y) (edge value l.second x y));
 }

@@ -10,5 +10,6 @@ invariant-loop-y l = record {
   grows : Grows (2 * l.y) l.fn.net l.net;
   width : length l.nodes.items ≡ l.y;
   nodes : All (IsNode l.net) l.nodes.items;
-  value : Always l.net (λ value. (y : ℕ) → y < l.y → member value l.nodes.items y ≡ combined l.operation (member value l.first y) (member value l.second y));
+  value : Always l.net (λ value. (y : ℕ) → y < l.y
+      → member value l.nodes.items y ≡ combined l.operation (member value l.first y) (member value l.second y));
 }

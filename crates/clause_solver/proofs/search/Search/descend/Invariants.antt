@@ -1,12 +1,12 @@
 use Rattle.std.proofs.Common.{◌≡◌, ◌+◌, ◌-◌, None, length}
-use Rattle.clause_solver.specs.Searching.{IsSearch, Continues}
+use Rattle.clause_solver.specs.Searching.{IsSearch, SearchesOn}
 use Rattle.clause_solver.proofs.search.Search.descend.Given as goal
 
 abbrev pub invariant-loop-self : goal.invariant-loop-self
 invariant-loop-self l = record {
   kept : IsSearch l.self;
   quiet : l.self.conflict ≡ None;
-  continues : Continues l.fn.self l.self;
+  continues : SearchesOn l.fn.self l.self;
 }
 
 abbrev pub decreases-loop-self : goal.decreases-loop-self

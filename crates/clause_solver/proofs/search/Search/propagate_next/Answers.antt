@@ -3,12 +3,12 @@ use Rattle.std.specs.Prelude.{neg_ℤ, unsigned_abs, FitsSigned}
 use Rattle.std.proofs.lemmas.Int.{to_z-of_z}
 use Rattle.clause_solver.specs.Assigned.{at}
 use Rattle.clause_solver.proofs.Places.{place-has, abs-negated}
-use Rattle.clause_solver.proofs.Watched.{extends-length}
+use Rattle.clause_solver.proofs.Propagated.{extends-length}
 use Rattle.clause_solver.proofs.Decisions.{decisions-grown, named-same, none_owed}
 use Rattle.clause_solver.proofs.search.Search.propagate_next.Goals as goal
 
-pub of-holders-requires-clause-within : goal.of-holders-requires-clause-within
-of-holders-requires-clause-within c =
+pub of-occurrences-requires-clause-within : goal.of-occurrences-requires-clause-within
+of-occurrences-requires-clause-within c =
     let s = c.args.self.now in
     let holding = s.trail.literals in
     let l = at holding s.head in
@@ -17,7 +17,7 @@ of-holders-requires-clause-within c =
     let value : c.negated.result ≡ neg_ℤ l = simp (to_z-of_z w32 l own) at (rw c.literals.ensures.value at c.negated.ensures) in
     let named = (c.literals.ensures.consistent.named l (place-has holding s.head c.requires.more)).1 in
     rw (to_z-of_z w32 c.negated.result fits)
-    (omega (arith, named, c.requires.kept.holders.size, ap unsigned_abs value, abs-negated l))
+    (omega (arith, named, c.requires.kept.occurrences.size, ap unsigned_abs value, abs-negated l))
 
 pub returns-then-is_none-clause-kept : goal.returns-then-is_none-clause-kept
 returns-then-is_none-clause-kept c =
@@ -32,11 +32,11 @@ returns-then-is_none-clause-kept c =
       full = kept.full;
       paired = facts.paired;
       reasons = rw each at facts.reasons;
-      holders = rw facts.variables kept.holders;
-      decisions = decisions-grown clauses s.trail.literals c.propagate_one.new.trail.literals s.reasons.items c.propagate_one.new.reasons.items s.starts.items facts.grown kept.paired facts.paired facts.decisions kept.decisions;
+      occurrences = rw facts.variables kept.occurrences;
+      decisions = decisions-grown clauses s.trail.literals c.propagate_one.new.trail.literals s.reasons.items c.propagate_one.new.reasons.items s.levels.items facts.grown kept.paired facts.paired facts.decisions kept.decisions;
       head = omega (arith, long, c.requires.more);
       conflict = rw each at facts.conflict;
-      watched = rw each at facts.watched;
+      propagated = rw each at facts.propagated;
     }
 
 pub returns-else-is_none-clause-kept : goal.returns-else-is_none-clause-kept
@@ -52,9 +52,9 @@ returns-else-is_none-clause-kept c =
       full = kept.full;
       paired = facts.paired;
       reasons = rw each at facts.reasons;
-      holders = rw facts.variables kept.holders;
-      decisions = decisions-grown clauses s.trail.literals c.propagate_one.new.trail.literals s.reasons.items c.propagate_one.new.reasons.items s.starts.items facts.grown kept.paired facts.paired facts.decisions kept.decisions;
+      occurrences = rw facts.variables kept.occurrences;
+      decisions = decisions-grown clauses s.trail.literals c.propagate_one.new.trail.literals s.reasons.items c.propagate_one.new.reasons.items s.levels.items facts.grown kept.paired facts.paired facts.decisions kept.decisions;
       head = omega (arith, long, c.requires.more);
       conflict = rw each at facts.conflict;
-      watched = none_owed c.in_ok-self.field-0 _ c.if-is_none.ensures;
+      propagated = none_owed c.in_ok-self.field-0 _ c.if-is_none.ensures;
     }

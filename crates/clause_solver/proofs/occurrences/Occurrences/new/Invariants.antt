@@ -1,6 +1,6 @@
 use Rattle.std.proofs.Common.{◌≡◌, ℕ, length, []}
-use Rattle.clause_solver.specs.Holding.{numbers_in}
-use Rattle.clause_solver.proofs.holders.Holders.new.Given as goal
+use Rattle.clause_solver.specs.Occurrences.{numbers_in}
+use Rattle.clause_solver.proofs.occurrences.Occurrences.new.Given as goal
 
 abbrev pub invariant-loop : goal.invariant-loop
 invariant-loop l = record {

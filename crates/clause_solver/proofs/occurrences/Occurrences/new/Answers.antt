@@ -1,7 +1,7 @@
 use Rattle.std.proofs.Common.{◌≡◌, ◌∙◌, ◌++◌, ◌∷◌, [], ap, length, length-append, arith}
-use Rattle.clause_solver.specs.Holding.{numbers_in}
-use Rattle.clause_solver.proofs.Holding.{empty-push}
-use Rattle.clause_solver.proofs.holders.Holders.new.Goals as goal
+use Rattle.clause_solver.specs.Occurrences.{numbers_in}
+use Rattle.clause_solver.proofs.OccurrenceLists.{empty-push}
+use Rattle.clause_solver.proofs.occurrences.Occurrences.new.Goals as goal
 
 pub loop-init : goal.loop-init
 loop-init c = record {

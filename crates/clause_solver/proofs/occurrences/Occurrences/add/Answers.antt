@@ -2,8 +2,8 @@ use Rattle.std.proofs.Common.{rules, w32}
 use Rattle.std.specs.Prelude.{FitsSigned}
 use Rattle.std.proofs.lemmas.Int.{to_z-of_z}
 use Rattle.clause_solver.specs.Assigned.{at}
-use Rattle.clause_solver.proofs.Holding.{noted-next}
-use Rattle.clause_solver.proofs.holders.Holders.add.Goals as goal
+use Rattle.clause_solver.proofs.OccurrenceLists.{noted-next}
+use Rattle.clause_solver.proofs.occurrences.Occurrences.add.Goals as goal
 
 pub loop-literal-preserved : goal.loop-literal-preserved
 loop-literal-preserved c =

@@ -1,5 +1,5 @@
 //! Checks the sources of a file, and prints of each whether it is accepted or which rule it breaks and where. Its
-//! stored run is the table of the rules on classes, names, types and thrown exceptions; `tools/javac_rows` compares it
+//! stored run is the table of the rules on classes, names, types and thrown exceptions; `tools/ask_java check` compares it
 //! with `javac`.
 //!
 //! Each source begins behind a line `== NAME` and ends before the next one.

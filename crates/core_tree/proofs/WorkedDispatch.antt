@@ -53,6 +53,7 @@ f_of owner answer e = record {
   answer = answer;
   locals = [];
   body = stmt.Return (Some e) ∷ [];
+  contract = None;
 }
 
 -- the constructor of a class that none is written in
@@ -78,6 +79,7 @@ main_method = record {
   answer = ty.Void;
   locals = ty.Class 18 ∷ [];
   body = body;
+  contract = None;
 }
 
 -- the program in which B has these fields, and an f with this result

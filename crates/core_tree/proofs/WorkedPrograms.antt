@@ -37,6 +37,7 @@ main_method body = record {
   answer = ty.Void;
   locals = [];
   body = body;
+  contract = None;
 }
 
 abbrev only_main : List Stmt → Program

@@ -9,7 +9,7 @@ use Rattle.core_tree.specs.declared.program.Class.{Class}
 
 -- ---- classes
 
--- a class and its superclasses, from it upward (JLS 8.1.4), where at most so many steps lead to one without a superclass
+-- a class and its superclasses, from it upward (JLS 8.1.4), where at most that many steps lead to one without a superclass
 unfoldable pub line_within : ℕ → List Class → ℕ → Option (List ℕ)
 line_within zero classes c = None
 line_within (suc steps) classes c = option_and_then (λ class.
@@ -87,6 +87,6 @@ value_type_node classes Ty-F.Null = false
 value_type_node classes Ty-F.Void = false
 value_type_node classes _ = true
 
--- a type that a variable, a field or an element may have, with so many classes
+-- a type that a variable, a field or an element may have, with that many classes
 unfoldable pub is_value_type : ℕ → Ty → Bool
 is_value_type classes = fold-Ty Bool (value_type_node classes)

@@ -139,7 +139,7 @@ abbrev pub numbers_from : {X : Type 0} → ℕ → List X → List ℕ
 numbers_from n [] = []
 numbers_from n (x ∷ xs) = n ∷ numbers_from (suc n) xs
 
--- a body declares each of its locals behind the parameters once, in the order of their numbers
+-- a body declares each of its locals after the parameters once, in the order of their numbers
 abbrev pub is_numbered : List Ty → List Ty → List Stmt → Bool
 is_numbered params locals body = pointwise nat_eq (flat_map declared_numbers body) (numbers_from (length params) locals)
 

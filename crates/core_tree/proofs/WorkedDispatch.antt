@@ -147,6 +147,7 @@ good_is_well_typed = record {
   ) refl;
   makers = refl;
   main = rw (is_same_type-Array ty.Text, is_same_type-Text) refl;
+  contracts = refl;
 }
 
 -- true isn't false

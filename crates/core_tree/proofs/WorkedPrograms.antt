@@ -80,4 +80,5 @@ print_sum_is_well_typed = record {
   ) refl;
   makers = refl;
   main = rw (is_same_type-Array ty.Text, is_same_type-Text) refl;
+  contracts = refl;
 }

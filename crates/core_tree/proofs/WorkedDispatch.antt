@@ -92,7 +92,7 @@ family fields answer e = record {
 }
 
 -- B's f is: return x;
-abbrev good : Program
+abbrev pub good : Program
 good = family (x ∷ []) ty.Int (view.Field expr.This 0)
 
 abbrev scope_of : ℕ → Scope
@@ -116,7 +116,7 @@ unfolding out-Ty out shown-the_row-Ty-0 shown hidden line_within
 call_of_f = rw (type_of-Chosen good main_scope (expr.Local 1) 1 [] site, type_of-Local good main_scope 1) refl
 
 -- the program is well typed
-good_is_well_typed : IsWellTyped good
+pub good_is_well_typed : IsWellTyped good
 unfolding line_within out-Ty out shown-the_row-Ty-0 shown hidden int_wrap
 good_is_well_typed = record {
   few_classes = omega arith;

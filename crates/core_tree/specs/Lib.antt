@@ -6,3 +6,4 @@ pub mod TermBounds
 pub mod TypedTerms
 pub mod TypedContracts
 pub mod WellTyped
+pub mod OtherContracts

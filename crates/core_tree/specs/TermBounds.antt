@@ -1,5 +1,5 @@
 -- How large the whole numbers in a contract can be.
-use Rattle.std.specs.Prelude.{ℕ, ◌+◌, ◌*◌, ◌^◌, unsigned_abs, Bool, true, false, ◌&&◌, nat_le, if◌then◌else◌, List, Option, Some, None, option_and_then}
+use Rattle.std.specs.Prelude.{ℕ, ◌+◌, ◌*◌, ◌^◌, unsigned_abs, Bool, true, false, ◌&&◌, nat_le, if◌then◌else◌, Option, Some, None, option_and_then}
 use Rattle.core_tree.specs.declared.terms.RelExpr.{RelExpr, out-RelExpr}
 use Rattle.core_tree.specs.declared.terms.RelExpr.TheOpen.{RelExpr-F}
 use Rattle.core_tree.specs.declared.terms.SetExpr.{SetExpr}

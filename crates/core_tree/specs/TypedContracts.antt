@@ -1,5 +1,5 @@
 -- Which contracts of methods are well typed.
-use Rattle.std.specs.Prelude.{ℕ, Bool, true, false, not, ◌&&◌, ◌||◌, ◌==◌, nat_lt, nat_le, ℤ, int_le, List, [], ◌∷◌, length, Option, slice_get, is_some, is_none, if◌then◌else◌, Some, None}
+use Rattle.std.specs.Prelude.{ℕ, Bool, true, false, not, ◌&&◌, ◌||◌, ◌==◌, nat_lt, nat_le, ℤ, int_le, List, [], ◌∷◌, length, slice_get, is_none, if◌then◌else◌, Some, None}
 use Rattle.std.specs.Option.{option_map_or}
 use Rattle.std.specs.List.{list_all, list_any}
 use Rattle.core_tree.specs.declared.ty.Ty.{Ty}

@@ -11,38 +11,38 @@ use Rattle.core_tree.specs.declared.ty.Ty.TheViews.{roll-Ty, roll-out-Ty}
 use Rattle.core_tree.specs.declared.ty.Ty.TheOpen.{Ty-F}
 use Rattle.core_tree.specs.declared.ty.Ty.TheFolds.{fold-roll-Ty}
 use Rattle.core_tree.specs.declared.program.Class.{Class}
-use Rattle.core_tree.specs.Types.{class_of, elements_of, is_int, is_boolean, is_string, is_null, is_object, is_subclass, assignable_node, is_assignable}
+use Rattle.core_tree.specs.Types.{class_of, elements_of, is_int, is_boolean, is_string, is_null, is_object, is_subclass, assignable_node, is_assignable_by, is_assignable}
 
 -- ---- the first type's form
 
 pub from_int : (classes : List Class) (a b : Ty) → a ≡ ty.Int → is_assignable classes a b ≡ is_int b
-unfolding is_assignable
-from_int classes a b is = rw (is, sym ty.rolls-Int) (ap (λ f. f b) (fold-roll-Ty (Ty → Bool) (assignable_node classes) Ty-F.Int))
+unfolding is_assignable is_assignable_by
+from_int classes a b is = rw (is, sym ty.rolls-Int) (ap (λ f. f b) (fold-roll-Ty (Ty → Bool) (assignable_node (is_subclass classes)) Ty-F.Int))
 
 pub from_boolean : (classes : List Class) (a b : Ty) → a ≡ ty.Bool → is_assignable classes a b ≡ is_boolean b
-unfolding is_assignable
-from_boolean classes a b is = rw (is, sym ty.rolls-Bool) (ap (λ f. f b) (fold-roll-Ty (Ty → Bool) (assignable_node classes) Ty-F.Bool))
+unfolding is_assignable is_assignable_by
+from_boolean classes a b is = rw (is, sym ty.rolls-Bool) (ap (λ f. f b) (fold-roll-Ty (Ty → Bool) (assignable_node (is_subclass classes)) Ty-F.Bool))
 
 pub from_text : (classes : List Class) (a b : Ty) → a ≡ ty.Text → is_assignable classes a b ≡ is_string b
-unfolding is_assignable
-from_text classes a b is = rw (is, sym ty.rolls-Text) (ap (λ f. f b) (fold-roll-Ty (Ty → Bool) (assignable_node classes) Ty-F.Text))
+unfolding is_assignable is_assignable_by
+from_text classes a b is = rw (is, sym ty.rolls-Text) (ap (λ f. f b) (fold-roll-Ty (Ty → Bool) (assignable_node (is_subclass classes)) Ty-F.Text))
 
 pub from_class : (classes : List Class) (c : ℕ) (b : Ty) → is_assignable classes (ty.Class c) b ≡ option_map_or (is_subclass classes c) (class_of b) false
-unfolding is_assignable
-from_class classes c b = rw (sym (ty.rolls-Class c)) (ap (λ f. f b) (fold-roll-Ty (Ty → Bool) (assignable_node classes) (Ty-F.Class c)))
+unfolding is_assignable is_assignable_by
+from_class classes c b = rw (sym (ty.rolls-Class c)) (ap (λ f. f b) (fold-roll-Ty (Ty → Bool) (assignable_node (is_subclass classes)) (Ty-F.Class c)))
 
 from_array : (classes : List Class) (e b : Ty) →
     is_assignable classes (type.Array e) b ≡ option_map_or (λ d. d == 0) (class_of b) (option_map_or (is_assignable classes e) (elements_of b) false)
-unfolding is_assignable
-from_array classes e b = rw (sym (ty.rolls-Array e)) (ap (λ f. f b) (fold-roll-Ty (Ty → Bool) (assignable_node classes) (Ty-F.Array e)))
+unfolding is_assignable is_assignable_by
+from_array classes e b = rw (sym (ty.rolls-Array e)) (ap (λ f. f b) (fold-roll-Ty (Ty → Bool) (assignable_node (is_subclass classes)) (Ty-F.Array e)))
 
 pub from_null : (classes : List Class) (a b : Ty) → a ≡ ty.Null → is_assignable classes a b ≡ (is_null b || is_string b || is_object b)
-unfolding is_assignable
-from_null classes a b is = rw (is, sym ty.rolls-Null) (ap (λ f. f b) (fold-roll-Ty (Ty → Bool) (assignable_node classes) Ty-F.Null))
+unfolding is_assignable is_assignable_by
+from_null classes a b is = rw (is, sym ty.rolls-Null) (ap (λ f. f b) (fold-roll-Ty (Ty → Bool) (assignable_node (is_subclass classes)) Ty-F.Null))
 
 pub from_void : (classes : List Class) (a b : Ty) → a ≡ ty.Void → is_assignable classes a b ≡ false
-unfolding is_assignable
-from_void classes a b is = rw (is, sym ty.rolls-Void) (ap (λ f. f b) (fold-roll-Ty (Ty → Bool) (assignable_node classes) Ty-F.Void))
+unfolding is_assignable is_assignable_by
+from_void classes a b is = rw (is, sym ty.rolls-Void) (ap (λ f. f b) (fold-roll-Ty (Ty → Bool) (assignable_node (is_subclass classes)) Ty-F.Void))
 
 -- ---- the second type's form, where it is the one that is asked for
 

@@ -5,35 +5,35 @@ use Rattle.core_tree.specs.declared.ty.Ty.TheVariants as ty
 use Rattle.core_tree.specs.declared.ty.Ty.TheOpen.{Ty-F}
 use Rattle.core_tree.specs.declared.ty.Ty.TheFolds.{fold-roll-Ty}
 use Rattle.core_tree.specs.declared.program.Class.{Class}
-use Rattle.core_tree.specs.Types.{assignable_node, is_assignable, same_type_node, is_same_type, value_type_node, is_value_type}
+use Rattle.core_tree.specs.Types.{is_subclass, assignable_node, is_assignable_by, is_assignable, same_type_node, is_same_type, value_type_node, is_value_type}
 
-pub is_assignable-Int : (classes : List Class) → is_assignable classes ty.Int ≡ assignable_node classes Ty-F.Int
-unfolding is_assignable
-is_assignable-Int classes = ap (is_assignable classes) (sym ty.rolls-Int) ∙ fold-roll-Ty (Ty → Bool) (assignable_node classes) Ty-F.Int
+pub is_assignable-Int : (classes : List Class) → is_assignable classes ty.Int ≡ assignable_node (is_subclass classes) Ty-F.Int
+unfolding is_assignable is_assignable_by
+is_assignable-Int classes = ap (is_assignable classes) (sym ty.rolls-Int) ∙ fold-roll-Ty (Ty → Bool) (assignable_node (is_subclass classes)) Ty-F.Int
 
-pub is_assignable-Bool : (classes : List Class) → is_assignable classes ty.Bool ≡ assignable_node classes Ty-F.Bool
-unfolding is_assignable
-is_assignable-Bool classes = ap (is_assignable classes) (sym ty.rolls-Bool) ∙ fold-roll-Ty (Ty → Bool) (assignable_node classes) Ty-F.Bool
+pub is_assignable-Bool : (classes : List Class) → is_assignable classes ty.Bool ≡ assignable_node (is_subclass classes) Ty-F.Bool
+unfolding is_assignable is_assignable_by
+is_assignable-Bool classes = ap (is_assignable classes) (sym ty.rolls-Bool) ∙ fold-roll-Ty (Ty → Bool) (assignable_node (is_subclass classes)) Ty-F.Bool
 
-pub is_assignable-Text : (classes : List Class) → is_assignable classes ty.Text ≡ assignable_node classes Ty-F.Text
-unfolding is_assignable
-is_assignable-Text classes = ap (is_assignable classes) (sym ty.rolls-Text) ∙ fold-roll-Ty (Ty → Bool) (assignable_node classes) Ty-F.Text
+pub is_assignable-Text : (classes : List Class) → is_assignable classes ty.Text ≡ assignable_node (is_subclass classes) Ty-F.Text
+unfolding is_assignable is_assignable_by
+is_assignable-Text classes = ap (is_assignable classes) (sym ty.rolls-Text) ∙ fold-roll-Ty (Ty → Bool) (assignable_node (is_subclass classes)) Ty-F.Text
 
-pub is_assignable-Class : (classes : List Class) (c : ℕ) → is_assignable classes (ty.Class c) ≡ assignable_node classes (Ty-F.Class c)
-unfolding is_assignable
-is_assignable-Class classes c = ap (is_assignable classes) (sym (ty.rolls-Class c)) ∙ fold-roll-Ty (Ty → Bool) (assignable_node classes) (Ty-F.Class c)
+pub is_assignable-Class : (classes : List Class) (c : ℕ) → is_assignable classes (ty.Class c) ≡ assignable_node (is_subclass classes) (Ty-F.Class c)
+unfolding is_assignable is_assignable_by
+is_assignable-Class classes c = ap (is_assignable classes) (sym (ty.rolls-Class c)) ∙ fold-roll-Ty (Ty → Bool) (assignable_node (is_subclass classes)) (Ty-F.Class c)
 
-pub is_assignable-Array : (classes : List Class) (elements : Ty) → is_assignable classes (ty.Array elements) ≡ assignable_node classes (Ty-F.Array (is_assignable classes elements))
-unfolding is_assignable
-is_assignable-Array classes elements = ap (is_assignable classes) (sym (ty.rolls-Array elements)) ∙ fold-roll-Ty (Ty → Bool) (assignable_node classes) (Ty-F.Array elements)
+pub is_assignable-Array : (classes : List Class) (elements : Ty) → is_assignable classes (ty.Array elements) ≡ assignable_node (is_subclass classes) (Ty-F.Array (is_assignable classes elements))
+unfolding is_assignable is_assignable_by
+is_assignable-Array classes elements = ap (is_assignable classes) (sym (ty.rolls-Array elements)) ∙ fold-roll-Ty (Ty → Bool) (assignable_node (is_subclass classes)) (Ty-F.Array elements)
 
-pub is_assignable-Null : (classes : List Class) → is_assignable classes ty.Null ≡ assignable_node classes Ty-F.Null
-unfolding is_assignable
-is_assignable-Null classes = ap (is_assignable classes) (sym ty.rolls-Null) ∙ fold-roll-Ty (Ty → Bool) (assignable_node classes) Ty-F.Null
+pub is_assignable-Null : (classes : List Class) → is_assignable classes ty.Null ≡ assignable_node (is_subclass classes) Ty-F.Null
+unfolding is_assignable is_assignable_by
+is_assignable-Null classes = ap (is_assignable classes) (sym ty.rolls-Null) ∙ fold-roll-Ty (Ty → Bool) (assignable_node (is_subclass classes)) Ty-F.Null
 
-pub is_assignable-Void : (classes : List Class) → is_assignable classes ty.Void ≡ assignable_node classes Ty-F.Void
-unfolding is_assignable
-is_assignable-Void classes = ap (is_assignable classes) (sym ty.rolls-Void) ∙ fold-roll-Ty (Ty → Bool) (assignable_node classes) Ty-F.Void
+pub is_assignable-Void : (classes : List Class) → is_assignable classes ty.Void ≡ assignable_node (is_subclass classes) Ty-F.Void
+unfolding is_assignable is_assignable_by
+is_assignable-Void classes = ap (is_assignable classes) (sym ty.rolls-Void) ∙ fold-roll-Ty (Ty → Bool) (assignable_node (is_subclass classes)) Ty-F.Void
 
 pub is_same_type-Int : is_same_type ty.Int ≡ same_type_node Ty-F.Int
 unfolding is_same_type

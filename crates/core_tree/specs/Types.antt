@@ -9,7 +9,7 @@ use Rattle.core_tree.specs.declared.program.Class.{Class}
 
 -- ---- classes
 
--- a class and its superclasses, from it upward (JLS 8.1.4), where at most so many steps lead to one without a superclass
+-- a class and its superclasses, from it upward (JLS 8.1.4), where at most that many steps lead to one without a superclass
 unfoldable pub line_within : ℕ → List Class → ℕ → Option (List ℕ)
 line_within zero classes c = None
 line_within (suc steps) classes c = option_and_then (λ class.
@@ -53,19 +53,24 @@ is_void t = elim (out-Ty t) [ Ty-F.Void ↦ true | _ ↦ false ]
 abbrev pub is_object : Ty → Bool
 is_object t = is_some (class_of t) || is_some (elements_of t)
 
-abbrev pub assignable_node : List Class → Ty-F (Ty → Bool) → Ty → Bool
-assignable_node classes Ty-F.Int to = is_int to
-assignable_node classes Ty-F.Bool to = is_boolean to
-assignable_node classes Ty-F.Text to = is_string to
-assignable_node classes (Ty-F.Class c) to = option_map_or (is_subclass classes c) (class_of to) false
-assignable_node classes (Ty-F.Array fits) to = option_map_or (λ d. d == 0) (class_of to) (option_map_or fits (elements_of to) false)
-assignable_node classes Ty-F.Null to = is_null to || is_string to || is_object to
-assignable_node classes Ty-F.Void to = false
+abbrev pub assignable_node : (ℕ → ℕ → Bool) → Ty-F (Ty → Bool) → Ty → Bool
+assignable_node below Ty-F.Int to = is_int to
+assignable_node below Ty-F.Bool to = is_boolean to
+assignable_node below Ty-F.Text to = is_string to
+assignable_node below (Ty-F.Class c) to = option_map_or (below c) (class_of to) false
+assignable_node below (Ty-F.Array fits) to = option_map_or (λ d. d == 0) (class_of to) (option_map_or fits (elements_of to) false)
+assignable_node below Ty-F.Null to = is_null to || is_string to || is_object to
+assignable_node below Ty-F.Void to = false
 
--- a value of the first type may be assigned to a variable of the second (JLS 5.2): a type to itself, a class to its
--- superclasses, null to String, classes and arrays, an array to Object and to an array whose elements it fits
+-- a value of the first type may be assigned to a variable of the second (JLS 5.2), by a test of two classes, that the first
+-- is the second or below it: a type to itself, a class to its superclasses, null to String, classes and arrays, an array to
+-- Object and to an array whose elements it fits
+unfoldable pub is_assignable_by : (ℕ → ℕ → Bool) → Ty → Ty → Bool
+is_assignable_by below = fold-Ty (Ty → Bool) (assignable_node below)
+
+-- a value of the first type may be assigned to a variable of the second in a program with these classes
 unfoldable pub is_assignable : List Class → Ty → Ty → Bool
-is_assignable classes = fold-Ty (Ty → Bool) (assignable_node classes)
+is_assignable classes = is_assignable_by (is_subclass classes)
 
 abbrev pub same_type_node : Ty-F (Ty → Bool) → Ty → Bool
 same_type_node Ty-F.Int t = is_int t
@@ -87,6 +92,6 @@ value_type_node classes Ty-F.Null = false
 value_type_node classes Ty-F.Void = false
 value_type_node classes _ = true
 
--- a type that a variable, a field or an element may have, with so many classes
+-- a type that a variable, a field or an element may have, with that many classes
 unfoldable pub is_value_type : ℕ → Ty → Bool
 is_value_type classes = fold-Ty Bool (value_type_node classes)

@@ -19,6 +19,7 @@ use Rattle.core_tree.specs.declared.program.Parent.TheVariants as parent
 use Rattle.core_tree.specs.declared.program.Program.{Program}
 use Rattle.core_tree.specs.BuiltIn.{number_of, is_built_in, built_in_classes}
 use Rattle.core_tree.specs.Types.{line_of, is_subclass, is_same_type, is_string, is_value_type, is_void}
+use Rattle.core_tree.specs.TypedContracts.{has_contracts}
 use Rattle.core_tree.specs.Typing.{Scope, fits, all_fit, type_of, is_throwable, chosen_method, is_typed_body}
 
 -- ---- classes
@@ -139,7 +140,7 @@ abbrev pub numbers_from : {X : Type 0} → ℕ → List X → List ℕ
 numbers_from n [] = []
 numbers_from n (x ∷ xs) = n ∷ numbers_from (suc n) xs
 
--- a body declares each of its locals behind the parameters once, in the order of their numbers
+-- a body declares each of its locals after the parameters once, in the order of their numbers
 abbrev pub is_numbered : List Ty → List Ty → List Stmt → Bool
 is_numbered params locals body = pointwise nat_eq (flat_map declared_numbers body) (numbers_from (length params) locals)
 
@@ -205,3 +206,5 @@ pub record IsWellTyped (p : Program) : Type 0 where
   pub methods : IsTrue (list_all (is_method p) p.methods)
   pub makers : IsTrue (list_all (is_maker p) p.makers)
   pub main : IsTrue (option_map_or is_main (slice_get p.methods p.main) false)
+  -- each contract is well typed
+  pub contracts : IsTrue (has_contracts p)

@@ -9,21 +9,29 @@
 #![tactic(auto)]
 
 mod built_in;
+mod contract;
 mod error;
 mod expr;
+mod law;
 mod operator;
 mod program;
+mod shared;
 mod stmt;
+mod terms;
 mod text;
 mod ty;
 mod what;
 
-pub use built_in::BuiltIn;
+pub use built_in::{BuiltIn, FIRST_CLASS};
+pub use contract::{Added, Contract, Modified};
 pub use error::OutOfMemory;
 pub use expr::{Expr, Site};
+pub use law::other_contracts_keep_a_program_well_typed;
 pub use operator::{BinOp, UnOp, UpOp};
 pub use program::{Class, Field, Maker, Method, Parent, Program};
+pub use shared::Shared;
 pub use stmt::{Catch, Stmt, Target};
+pub use terms::{Formula, IntExpr, RelExpr, SetExpr};
 pub use text::Text;
 pub use ty::Ty;
 pub use what::What;

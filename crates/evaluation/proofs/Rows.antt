@@ -43,6 +43,7 @@ static_method params answer locals body = record {
   answer = answer;
   locals = locals;
   body = body;
+  contract = None;
 }
 
 -- a main with these locals and this body, and static methods without parameters, with these bodies, that answer an int

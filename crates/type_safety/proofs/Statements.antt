@@ -21,7 +21,7 @@ use Rattle.core_tree.specs.declared.stmt.Catch.{Catch, out-Catch}
 use Rattle.core_tree.specs.declared.program.Program.{Program}
 use Rattle.core_tree.specs.BuiltIn.{number_of}
 use Rattle.core_tree.specs.Types.{class_of, elements_of, is_int, is_boolean, is_string, is_null, is_subclass, is_assignable, is_same_type}
-use Rattle.core_tree.specs.Typing.{Scope, PartType, InLoop, has, fits as fits_part, has_text, ints, booleans, field_type, is_throwable, type_of, target_type, operand_type, is_update, if_there, all_of, is_condition, catch_node, is_typed_stmt}
+use Rattle.core_tree.specs.Typing.{Scope, PartType, InLoop, has, fits as fits_part, has_text, ints, booleans, field_type, is_throwable, type_of, target_type, operand_type, is_update, is_counting, if_there, all_of, is_condition, catch_node, is_typed_stmt}
 use Rattle.core_tree.specs.Typing as typing
 use Rattle.core_tree.specs.WellTyped.{IsWellTyped}
 use Rattle.heap_arena.specs.declared.cell.Cell.TheVariants as value
@@ -209,8 +209,9 @@ module _ (p : Program) (typed : IsWellTyped p) (part : Parts) (safe : AreSafe p 
           (trapped inside x fits_x class.NullPointerException refl) (trapped inside x fits_x class.ArrayIndexOutOfBoundsException refl)
           (λ k at cell. next (location.Cell k at) x fits_x cell))))
 
-  update_in : (inside : Bool) (to : Target) (op : UpOp) (e : Option Expr) (w : World) → IsTrue (is_update op (target_type p s to) (operand_type p s e)) → FitsScope p s w → Ends inside w (stmt_node p part (Stmt-F.Update to op e) w)
-  update_in inside to op e w passes fits =
+  update_in : (inside : Bool) (to : Target) (op : UpOp) (e : Option Expr) (w : World) → IsTrue (is_update op (target_type p s to) (operand_type p s e) && (is_some e || is_counting op)) → FitsScope p s w → Ends inside w (stmt_node p part (Stmt-F.Update to op e) w)
+  update_in inside to op e w typed_update fits =
+      let passes = and_l (is_update op (target_type p s to) (operand_type p s e)) (is_some e || is_counting op) typed_update in
       update_parts op (target_type p s to) (operand_type p s e) {Q = Ends inside w (stmt_node p part (Stmt-F.Update to op e) w)} passes (λ a b is_a is_b.
       with_target_in inside to a (update_place p part op e) w is_a fits (λ place u fits_u is_place.
       update_place_in inside op e place a b u (subst (λ x. IsTrue (is_update op x (Some b))) is_a (subst (λ y. IsTrue (is_update op (target_type p s to) y)) is_b passes)) is_b fits_u is_place))

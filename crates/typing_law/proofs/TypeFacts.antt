@@ -12,7 +12,7 @@ use Rattle.core_tree.specs.declared.ty.Ty.TheViews.{roll-Ty, roll-out-Ty}
 use Rattle.core_tree.specs.declared.ty.Ty.TheOpen.{Ty-F}
 use Rattle.core_tree.specs.declared.ty.Ty.TheFolds.{fold-roll-Ty}
 use Rattle.core_tree.specs.declared.program.Class.{Class}
-use Rattle.core_tree.specs.Types.{class_of, elements_of, is_int, is_boolean, is_string, is_null, is_void, is_object, is_subclass, assignable_node, is_assignable, value_type_node, is_value_type}
+use Rattle.core_tree.specs.Types.{class_of, elements_of, is_int, is_boolean, is_string, is_null, is_void, is_object, is_subclass, assignable_node, is_assignable_by, is_assignable, value_type_node, is_value_type}
 
 -- ---- what a type is, by what is read of it
 
@@ -93,14 +93,14 @@ assignable_layer classes Ty-F.Null to = is_null to || is_string to || is_object 
 assignable_layer classes Ty-F.Void to = false
 
 pub assignable_opens : (classes : List Class) (x : Ty-F Ty) (b : Ty) → is_assignable classes (roll-Ty x) b ≡ assignable_layer classes x b
-unfolding is_assignable
-assignable_opens classes Ty-F.Int b = ap (λ f. f b) (fold-roll-Ty (Ty → Bool) (assignable_node classes) Ty-F.Int)
-assignable_opens classes Ty-F.Bool b = ap (λ f. f b) (fold-roll-Ty (Ty → Bool) (assignable_node classes) Ty-F.Bool)
-assignable_opens classes Ty-F.Text b = ap (λ f. f b) (fold-roll-Ty (Ty → Bool) (assignable_node classes) Ty-F.Text)
-assignable_opens classes (Ty-F.Class c) b = ap (λ f. f b) (fold-roll-Ty (Ty → Bool) (assignable_node classes) (Ty-F.Class c))
-assignable_opens classes (Ty-F.Array e) b = ap (λ f. f b) (fold-roll-Ty (Ty → Bool) (assignable_node classes) (Ty-F.Array e))
-assignable_opens classes Ty-F.Null b = ap (λ f. f b) (fold-roll-Ty (Ty → Bool) (assignable_node classes) Ty-F.Null)
-assignable_opens classes Ty-F.Void b = ap (λ f. f b) (fold-roll-Ty (Ty → Bool) (assignable_node classes) Ty-F.Void)
+unfolding is_assignable is_assignable_by
+assignable_opens classes Ty-F.Int b = ap (λ f. f b) (fold-roll-Ty (Ty → Bool) (assignable_node (is_subclass classes)) Ty-F.Int)
+assignable_opens classes Ty-F.Bool b = ap (λ f. f b) (fold-roll-Ty (Ty → Bool) (assignable_node (is_subclass classes)) Ty-F.Bool)
+assignable_opens classes Ty-F.Text b = ap (λ f. f b) (fold-roll-Ty (Ty → Bool) (assignable_node (is_subclass classes)) Ty-F.Text)
+assignable_opens classes (Ty-F.Class c) b = ap (λ f. f b) (fold-roll-Ty (Ty → Bool) (assignable_node (is_subclass classes)) (Ty-F.Class c))
+assignable_opens classes (Ty-F.Array e) b = ap (λ f. f b) (fold-roll-Ty (Ty → Bool) (assignable_node (is_subclass classes)) (Ty-F.Array e))
+assignable_opens classes Ty-F.Null b = ap (λ f. f b) (fold-roll-Ty (Ty → Bool) (assignable_node (is_subclass classes)) Ty-F.Null)
+assignable_opens classes Ty-F.Void b = ap (λ f. f b) (fold-roll-Ty (Ty → Bool) (assignable_node (is_subclass classes)) Ty-F.Void)
 
 -- a test of what is found
 pub found_passes : {X : Type 0} (test : X → Bool) (found : Option X) {Q : Type 0} → IsTrue (option_map_or test found false) → ((x : X) → found ≡ Some x → IsTrue (test x) → Q) → Q

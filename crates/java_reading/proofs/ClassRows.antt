@@ -10,15 +10,15 @@ use Rattle.java_syntax.specs.declared.class.Modifier.TheVariants as modifier
 use Rattle.java_syntax.specs.declared.expression.Expr.{Expr}
 use Rattle.java_syntax.specs.declared.expression.Expr as expr
 use Rattle.java_syntax.specs.declared.expression.Expr.TheVariants as e
-use Rattle.java_syntax.specs.declared.name.BaseType.TheVariants as base
+use Rattle.token_reading.specs.declared.name.BaseType.TheVariants as base
 use Rattle.java_syntax.specs.declared.statement.Stmt.TheVariants as s
-use Rattle.java_syntax.specs.Lexeme.{Lexeme, lexeme, same_operator, same_keyword}
-use Rattle.java_reading.specs.Outcome.{no_tree, too_high}
-use Rattle.java_reading.specs.ReadType.{expect, expect_word, ident_at, ident, brackets, base_type, type_of, type_tree}
+use Rattle.token_reading.specs.Lexeme.{Lexeme, lexeme, same_operator, same_keyword}
+use Rattle.token_reading.specs.Outcome.{no_tree, too_high}
+use Rattle.token_reading.specs.ReadType.{expect, expect_word, ident_at, ident, brackets, base_type, type_of, type_tree, none_fits, param_of, param, more_params, params}
 use Rattle.java_reading.specs.ReadExpr.{more_args, args, named, cast, parens, operand, super_call, instance, array, creation, prefix, member, element, conditional, instance_of, operated, climb, precedence, reading}
-use Rattle.java_reading.specs.ReadStmt.{value, arguments, none_fits, local_of, initial, local, declaration, step_before, assignment, step_behind, evaluated, simple, unended, stmts, block, inner_block, condition, ended, otherwise, if_stmt, while_stmt, do_stmt, more_simples, simples, start, for_stmt, return_stmt, throw_stmt, super_stmt, catch, catches, finally, try_stmt, local_stmt, simple_stmt, plain_stmt, stmt, statement, body}
+use Rattle.java_reading.specs.ReadStmt.{value, arguments, local_of, initial, local, declaration, step_before, assignment, step_behind, evaluated, simple, unended, stmts, block, inner_block, condition, ended, otherwise, if_stmt, while_stmt, do_stmt, more_simples, simples, start, for_stmt, return_stmt, throw_stmt, super_stmt, catch, catches, finally, try_stmt, local_stmt, simple_stmt, plain_stmt, stmt, statement, body}
 use Rattle.java_reading.specs.ReadClass as read
-use Rattle.java_reading.specs.ReadClass.{modifiers, param_of, param, more_params, params, names, throws, mods_of, maker_of, method_of, field_of, maker, method, field, void_method, constructor, typed, declared, member_node, public, extends, class_of, members, class_node, class, classes, file}
+use Rattle.java_reading.specs.ReadClass.{modifiers, names, throws, mods_of, maker_of, method_of, field_of, maker, method, field, void_method, constructor, typed, declared, member_node, public, extends, class_of, members, class_node, class, classes, file}
 
 -- these tokens, numbered from the number on
 abbrev row : ℕ → List TokenKind → List Lexeme

@@ -4,11 +4,12 @@ use Rattle.java_syntax.specs.declared.class.ClassTree.{ClassTree}
 use Rattle.java_syntax.specs.declared.class.FileTree.{FileTree}
 use Rattle.java_syntax.specs.declared.class.Member.{Member}
 use Rattle.java_syntax.specs.declared.class.Member.TheVariants as kinds
-use Rattle.java_syntax.specs.Lexeme.{Lexeme}
+use Rattle.token_reading.specs.Lexeme.{Lexeme}
 use Rattle.java_syntax.specs.Classes.{MemberWithin, Members, ClassWithin}
 use Rattle.java_syntax.specs.Spells.{ClassesWithin, FileWithin}
-use Rattle.java_syntax.specs.Height.{highest, member_height, class_height, file_height}
+use Rattle.java_syntax.specs.Height.{member_height, class_height, file_height}
 use Rattle.java_reading.proofs.StmtGrowing.{initial_low, body_at_most, initial_fit, body_fit}
+use Rattle.token_reading.specs.Height.{highest}
 
 -- ---- no lower than its height
 

@@ -12,28 +12,30 @@ use Rattle.java_syntax.specs.declared.class.MethodTree.{MethodTree}
 use Rattle.java_syntax.specs.declared.class.Modifier.{Modifier}
 use Rattle.java_syntax.specs.declared.class.Modifier.TheVariants as modifier
 use Rattle.java_syntax.specs.declared.class.Mods.{Mods}
-use Rattle.java_syntax.specs.declared.class.ParamTree.{ParamTree}
+use Rattle.token_reading.specs.declared.name.ParamTree.{ParamTree}
 use Rattle.java_syntax.specs.declared.expression.Expr.{Expr}
-use Rattle.java_syntax.specs.declared.name.BaseType.{BaseType}
-use Rattle.java_syntax.specs.declared.name.BaseType.TheVariants as base
-use Rattle.java_syntax.specs.declared.name.Ident.{Ident}
-use Rattle.java_syntax.specs.declared.name.TypeTree.{TypeTree}
+use Rattle.token_reading.specs.declared.name.BaseType.{BaseType}
+use Rattle.token_reading.specs.declared.name.BaseType.TheVariants as base
+use Rattle.token_reading.specs.declared.name.Ident.{Ident}
+use Rattle.token_reading.specs.declared.name.TypeTree.{TypeTree}
 use Rattle.java_syntax.specs.declared.statement.Stmt.{Stmt}
-use Rattle.java_syntax.specs.Lexeme.{Lexeme, lexeme, Then, sees, sees_word, same_operator, same_keyword}
-use Rattle.java_syntax.specs.Types.{IsIdent, Brackets, IsBase}
+use Rattle.token_reading.specs.Lexeme.{Lexeme, lexeme, Then, sees, sees_word, same_operator, same_keyword}
+use Rattle.token_reading.specs.Types.{IsIdent, Brackets, IsBase, Param, MoreParams, Params}
 use Rattle.java_syntax.specs.Exprs.{Within}
 use Rattle.java_syntax.specs.Stmts.{Initial, UnendedWithin, Stmts, StmtWithin}
-use Rattle.java_syntax.specs.Classes.{modifier_word, Modifiers, Param, MoreParams, Params, MoreNames, Throws, Answer, Invocable, MemberNode, MemberWithin}
+use Rattle.java_syntax.specs.Classes.{modifier_word, Modifiers, MoreNames, Throws, Answer, Invocable, MemberNode, MemberWithin}
 use Rattle.java_reading.specs.ReadStmt.{value, body}
-use Rattle.java_reading.specs.ReadClass.{modifier_at, modifiers, param, more_params, params, names, throws, maker_of, is_maker, maker, method, field, void_method, constructor, typed, declared, member_node, member}
+use Rattle.java_reading.specs.ReadClass.{modifier_at, modifiers, names, throws, maker_of, is_maker, maker, method, field, void_method, constructor, typed, declared, member_node, member}
 use Rattle.java_reading.proofs.ArgsFacts.{ArgsFacts}
 use Rattle.java_reading.proofs.ExprFacts.{ExprFacts}
-use Rattle.java_reading.proofs.SimpleFound.{op_or, ident_or, type_or, semicolon_closes, initial_or}
+use Rattle.java_reading.proofs.SimpleFound.{semicolon_closes, initial_or}
 use Rattle.java_reading.proofs.StmtBegins.{initial_length}
 use Rattle.java_reading.proofs.StmtFound.{stmt_found, body_or}
-use Rattle.java_reading.proofs.StmtLengths.{none_or, stmts_length, stmt_length}
-use Rattle.java_reading.proofs.Steps.{Or, found, or_then, raise}
-use Rattle.java_reading.proofs.Tokens.{then_length, sees_it, sees_word_it, type_length}
+use Rattle.java_reading.proofs.StmtLengths.{stmts_length, stmt_length}
+use Rattle.token_reading.proofs.Steps.{Or, found, or_then, raise}
+use Rattle.token_reading.proofs.Lexemes.{then_length, sees_it, sees_word_it, type_length}
+use Rattle.token_reading.specs.ReadType.{param, more_params, params}
+use Rattle.token_reading.proofs.Found.{op_or, ident_or, type_or, none_or}
 
 -- ---- lengths
 
@@ -222,7 +224,7 @@ module _ (facts : ExprFacts) (args_facts : ArgsFacts) (n b : ℕ) where
 
   maker_or : (mods : Mods) (name : Ident) (ps : List ParamTree) (ts : List Ident) (all : List Stmt) (xs rest : List Lexeme)
       → Invocable (Within n) (Stmts (Within n) (UnendedWithin n) (StmtWithin n)) ps ts all xs rest
-      → Or n b (maker (value b) (body b) mods name xs) (Ok (maker_of mods name ps ts all, rest))
+      → Or n b (maker b (value b) (body b) mods name xs) (Ok (maker_of mods name ps ts all, rest))
   unfolding maker
   maker_or mods name ps ts all xs rest w =
       or_then _ (params_or n b ps xs w.0 w.2 w.1 w.3) (or_then _ (throws_or n b ts w.2 w.4 w.6 w.5 w.7)
@@ -230,12 +232,12 @@ module _ (facts : ExprFacts) (args_facts : ArgsFacts) (n b : ℕ) where
 
   method_or : (t : MethodTree) (xs rest : List Lexeme)
       → Invocable (Within n) (Stmts (Within n) (UnendedWithin n) (StmtWithin n)) t.params t.throws t.body xs rest
-      → Or n b (method (value b) (body b) t.mods t.answer t.name xs) (Ok (kinds.Method t, rest))
+      → Or n b (method b (value b) (body b) t.mods t.answer t.name xs) (Ok (kinds.Method t, rest))
   unfolding method
   method_or t xs rest w = or_then _ (maker_or t.mods t.name t.params t.throws t.body xs rest w) (found refl)
 
   field_or : (t : FieldTree) (xs ys rest : List Lexeme) → Initial (Within n) t.value xs ys → Then (k.Op o.Semicolon) ys rest
-      → Or n b (field (value b) (body b) t.mods t.ty t.name xs) (Ok (kinds.Field t, rest))
+      → Or n b (field b (value b) (body b) t.mods t.ty t.name xs) (Ok (kinds.Field t, rest))
   unfolding field
   field_or t xs ys rest w u =
       or_then _ (initial_or facts n b t.value xs ys w (semicolon_closes ys rest u)) (or_then _ (op_or n b o.Semicolon ys rest u) (found refl))
@@ -254,21 +256,21 @@ module _ (facts : ExprFacts) (args_facts : ArgsFacts) (n b : ℕ) where
   answered_or : (t : MethodTree) (answer : Option TypeTree) (ys zs us rest : List Lexeme) → t.answer ≡ answer → Answer answer ys zs
       → IsIdent t.name zs us
       → Invocable (Within n) (Stmts (Within n) (UnendedWithin n) (StmtWithin n)) t.params t.throws t.body us rest
-      → Or n b (declared (value b) (body b) t.mods ys) (Ok (kinds.Method t, rest))
+      → Or n b (declared b (value b) (body b) t.mods ys) (Ok (kinds.Method t, rest))
   unfolding declared void_method typed
   answered_or t None ys zs us rest is w named inv =
-      let h = subst (λ (a : Option TypeTree). Or n b (method (value b) (body b) t.mods a t.name us) (Ok (kinds.Method t, rest))) is
+      let h = subst (λ (a : Option TypeTree). Or n b (method b (value b) (body b) t.mods a t.name us) (Ok (kinds.Method t, rest))) is
       (method_or t us rest inv) in
       rw (w.1, sees_word_it word.Void w.0 zs) (or_then _ (ident_or n b t.name zs us named) h)
   answered_or t (Some a) ys zs us rest is w named inv =
-      let h = subst (λ (a : Option TypeTree). Or n b (method (value b) (body b) t.mods a t.name us) (Ok (kinds.Method t, rest))) is
+      let h = subst (λ (a : Option TypeTree). Or n b (method b (value b) (body b) t.mods a t.name us) (Ok (kinds.Method t, rest))) is
       (method_or t us rest inv) in
       rw (base_no_void a.base ys w.0 w.1, base_no_maker a.base t.name a.dimensions ys w.0 zs us w.1 w.2 named)
       (or_then _ (type_or n b a t.name ys zs us w named) (or_then _ (ident_or n b t.name zs us named)
       (rw (invocable_paren t.params t.throws t.body us rest inv) h)))
 
   node_or : (t : Member) (xs rest : List Lexeme) → MemberNode (Within n) (Stmts (Within n) (UnendedWithin n) (StmtWithin n)) t xs rest
-      → Or n b (member_node (value b) (body b) xs) (Ok (t, rest))
+      → Or n b (member_node b (value b) (body b) xs) (Ok (t, rest))
   unfolding member_node declared typed constructor
   node_or (kinds.Field t) xs rest w =
       let d = base_declares t.ty.base w.0 w.3.0 w.3.1 in

@@ -12,24 +12,25 @@ use Rattle.java_syntax.specs.declared.class.Member.TheVariants as kinds
 use Rattle.java_syntax.specs.declared.class.Modifier.{Modifier}
 use Rattle.java_syntax.specs.declared.class.Modifier.TheVariants as modifier
 use Rattle.java_syntax.specs.declared.class.Mods.{Mods}
-use Rattle.java_syntax.specs.declared.class.ParamTree.{ParamTree}
-use Rattle.java_syntax.specs.declared.name.Ident.{Ident}
-use Rattle.java_syntax.specs.declared.name.TypeTree.{TypeTree}
-use Rattle.java_syntax.specs.Lexeme.{Lexeme, lexeme, Then, sees, sees_word}
-use Rattle.java_syntax.specs.Types.{IsIdent, IsType}
+use Rattle.token_reading.specs.declared.name.ParamTree.{ParamTree}
+use Rattle.token_reading.specs.declared.name.Ident.{Ident}
+use Rattle.token_reading.specs.declared.name.TypeTree.{TypeTree}
+use Rattle.token_reading.specs.Lexeme.{Lexeme, lexeme, Then, sees, sees_word}
+use Rattle.token_reading.specs.Types.{IsIdent, IsType, Param, MoreParams, Params}
 use Rattle.java_syntax.specs.Exprs.{Within}
 use Rattle.java_syntax.specs.Stmts.{UnendedWithin, Stmts, StmtWithin}
-use Rattle.java_syntax.specs.Classes.{modifier_word, Modifiers, Param, MoreParams, Params, MoreNames, Throws, Answer, Invocable, MemberNode, MemberWithin}
-use Rattle.java_reading.specs.Outcome.{Outcome}
-use Rattle.java_reading.specs.ReadType.{next}
+use Rattle.java_syntax.specs.Classes.{modifier_word, Modifiers, MoreNames, Throws, Answer, Invocable, MemberNode, MemberWithin}
+use Rattle.token_reading.specs.Outcome.{Outcome}
+use Rattle.token_reading.specs.ReadType.{next, param_of, param, more_params, params}
 use Rattle.java_reading.specs.ReadStmt.{value, body}
-use Rattle.java_reading.specs.ReadClass.{modifier_keyword, modifier_by, modifier_at, on, modifiers, param_of, param, more_params, params, names, throws, mods_of, maker_of, method_of, is_maker, maker, method, field, void_method, constructor, typed, declared, member_node, member}
+use Rattle.java_reading.specs.ReadClass.{modifier_keyword, modifier_by, modifier_at, on, modifiers, names, throws, mods_of, maker_of, method_of, is_maker, maker, method, field, void_method, constructor, typed, declared, member_node, member}
 use Rattle.java_reading.proofs.ArgsFacts.{ArgsFacts}
 use Rattle.java_reading.proofs.ExprFacts.{ExprFacts}
-use Rattle.java_reading.proofs.SimpleSound.{Takes, MayTake, op_gives, ident_gives, type_gives, initial_gives, none_gives}
-use Rattle.java_reading.proofs.Steps.{Gives, gives, gives_none, gives_then, gives_map, gives_if}
+use Rattle.java_reading.proofs.SimpleSound.{initial_gives}
+use Rattle.token_reading.proofs.Steps.{Gives, gives, gives_none, gives_then, gives_map, gives_if}
 use Rattle.java_reading.proofs.StmtSound.{body_gives, stmt_sound}
-use Rattle.java_reading.proofs.Tokens.{then_length, from_sees, from_sees_word}
+use Rattle.token_reading.proofs.Lexemes.{then_length, from_sees, from_sees_word}
+use Rattle.token_reading.proofs.Given.{Takes, MayTake, op_gives, ident_gives, type_gives, none_gives}
 
 -- ---- modifiers
 
@@ -150,7 +151,7 @@ module _ (facts : ExprFacts) (args_facts : ArgsFacts) (n : ℕ) where
   Behind t xs rest = Invocable (Within n) (Stmts (Within n) (UnendedWithin n) (StmtWithin n)) t.params t.throws t.body xs rest
 
   maker_gives : (mods : Mods) (name : Ident) (xs : List Lexeme)
-      → Takes (λ t xs rest. (t.mods ≡ mods) × (t.name ≡ name) × Behind t xs rest) xs (n ≤ length xs) (maker (value n) (body n) mods name xs)
+      → Takes (λ t xs rest. (t.mods ≡ mods) × (t.name ≡ name) × Behind t xs rest) xs (n ≤ length xs) (maker n (value n) (body n) mods name xs)
   unfolding maker
   maker_gives mods name xs =
       gives_then (params_gives xs) (λ h. absurd h) (λ ps ys w. gives_then (throws_gives ys) (λ h. absurd h) (λ ts zs v.
@@ -165,7 +166,7 @@ module _ (facts : ExprFacts) (args_facts : ArgsFacts) (n : ℕ) where
 
   method_gives : (mods : Mods) (answer : Option TypeTree) (name : Ident) (ys zs us : List Lexeme) → Answer answer ys zs → IsIdent name zs us
       → length us < length ys
-      → Takes (Declared mods) ys (suc n ≤ length ys) (method (value n) (body n) mods answer name us)
+      → Takes (Declared mods) ys (suc n ≤ length ys) (method n (value n) (body n) mods answer name us)
   unfolding method
   method_gives mods answer name ys zs us w named less =
       gives_then (maker_gives mods name us) (λ h. omega (arith, less)) (λ t vs v.
@@ -183,13 +184,13 @@ module _ (facts : ExprFacts) (args_facts : ArgsFacts) (n : ℕ) where
       ))
 
   field_gives : (mods : Mods) (t : TypeTree) (name : Ident) (ys zs us : List Lexeme) → IsType t ys zs → IsIdent name zs us → length us < length ys
-      → Takes (Declared mods) ys (suc n ≤ length ys) (field (value n) (body n) mods t name us)
+      → Takes (Declared mods) ys (suc n ≤ length ys) (field n (value n) (body n) mods t name us)
   unfolding field
   field_gives mods t name ys zs us w named less =
       gives_then (initial_gives facts n us) (λ h. omega (arith, less)) (λ e vs v. gives_then (op_gives o.Semicolon vs) (λ h. absurd h) (λ _ ws u.
       gives _ ws ((λ xs ms. (ys, ms, zs, w, us, named, vs, v.0, u.0)), omega (arith, less, v.1, u.1))))
 
-  typed_gives : (mods : Mods) (ys : List Lexeme) → Takes (Declared mods) ys (suc n ≤ length ys) (typed (value n) (body n) mods ys)
+  typed_gives : (mods : Mods) (ys : List Lexeme) → Takes (Declared mods) ys (suc n ≤ length ys) (typed n (value n) (body n) mods ys)
   unfolding typed
   typed_gives mods ys =
       gives_then (type_gives ys) (λ h. absurd h) (λ t zs w. gives_then (ident_gives zs) (λ h. absurd h) (λ x us v. gives_if (sees o.LeftParen us)
@@ -197,12 +198,12 @@ module _ (facts : ExprFacts) (args_facts : ArgsFacts) (n : ℕ) where
       (λ h. field_gives mods t x ys zs us w.0 v.0 (omega (arith, w.1, v.1)))))
 
   void_gives : (mods : Mods) (ys zs : List Lexeme) → Then (k.Word word.Void) ys zs
-      → Takes (Declared mods) ys (suc n ≤ length ys) (void_method (value n) (body n) mods zs)
+      → Takes (Declared mods) ys (suc n ≤ length ys) (void_method n (value n) (body n) mods zs)
   unfolding void_method
   void_gives mods ys zs t =
       gives_then (ident_gives zs) (λ h. absurd h) (λ x us v. method_gives mods None x ys zs us t v.0 (omega (arith, v.1, then_length _ ys zs t)))
 
-  constructor_gives : (mods : Mods) (ys : List Lexeme) → Takes (Declared mods) ys (suc n ≤ length ys) (constructor (value n) (body n) mods ys)
+  constructor_gives : (mods : Mods) (ys : List Lexeme) → Takes (Declared mods) ys (suc n ≤ length ys) (constructor n (value n) (body n) mods ys)
   unfolding constructor
   constructor_gives mods ys =
       gives_then (ident_gives ys) (λ h. absurd h) (λ x zs w. gives_then (maker_gives mods x zs) (λ h. omega (arith, w.1)) (λ t us v.
@@ -217,14 +218,14 @@ module _ (facts : ExprFacts) (args_facts : ArgsFacts) (n : ℕ) where
         omega (arith, w.1, v.1),
       )))
 
-  declared_gives : (mods : Mods) (ys : List Lexeme) → Takes (Declared mods) ys (suc n ≤ length ys) (declared (value n) (body n) mods ys)
+  declared_gives : (mods : Mods) (ys : List Lexeme) → Takes (Declared mods) ys (suc n ≤ length ys) (declared n (value n) (body n) mods ys)
   unfolding declared
   declared_gives mods ys =
       gives_if (sees_word word.Void ys) (λ h. void_gives mods ys (next ys) (from_sees_word word.Void ys h))
       (λ h. gives_if (is_maker ys) (λ h. constructor_gives mods ys) (λ h. typed_gives mods ys))
 
   node_gives : (xs : List Lexeme) → Takes (MemberNode (Within n) (Stmts (Within n) (UnendedWithin n) (StmtWithin n))) xs (suc n ≤ length xs)
-      (member_node (value n) (body n) xs)
+      (member_node n (value n) (body n) xs)
   unfolding member_node
   node_gives xs =
       gives_if (sees o.Semicolon xs)

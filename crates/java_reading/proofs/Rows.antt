@@ -4,14 +4,14 @@ use Rattle.java_tokens.specs.declared.token.Keyword.TheVariants as w
 use Rattle.java_tokens.specs.declared.token.Operator.TheVariants as o
 use Rattle.java_tokens.specs.declared.token.TokenKind.{TokenKind}
 use Rattle.java_tokens.specs.declared.token.TokenKind.TheVariants as k
-use Rattle.java_syntax.specs.declared.name.BaseType.TheVariants as base
-use Rattle.java_syntax.specs.declared.name.Ident.{Ident}
+use Rattle.token_reading.specs.declared.name.BaseType.TheVariants as base
+use Rattle.token_reading.specs.declared.name.Ident.{Ident}
 use Rattle.java_syntax.specs.declared.operator.BinaryOp.TheVariants as binary
 use Rattle.java_syntax.specs.declared.operator.UnaryOp.TheVariants as unary
 use Rattle.java_syntax.specs.declared.expression.Expr.TheVariants as e
-use Rattle.java_syntax.specs.Lexeme.{Lexeme, lexeme, same_operator}
-use Rattle.java_reading.specs.Outcome.{no_tree, too_high, Outcome}
-use Rattle.java_reading.specs.ReadType.{expect, ident_at, ident, brackets, base_type, type_of, type_tree}
+use Rattle.token_reading.specs.Lexeme.{Lexeme, lexeme, same_operator}
+use Rattle.token_reading.specs.Outcome.{no_tree, too_high, Outcome}
+use Rattle.token_reading.specs.ReadType.{expect, ident_at, ident, brackets, base_type, type_of, type_tree}
 use Rattle.java_reading.specs.ReadExpr.{Tall, more_args, args, named, cast, parens, operand, super_call, instance, array, creation, prefix, member, element, conditional, instance_of, operated, climb, precedence, reading}
 
 -- these tokens, numbered from the number on

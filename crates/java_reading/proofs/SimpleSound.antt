@@ -14,20 +14,20 @@ use Rattle.java_syntax.specs.declared.operator.StepOp.{StepOp}
 use Rattle.java_syntax.specs.declared.operator.StepOp.TheVariants as step
 use Rattle.java_syntax.specs.declared.statement.Stmt.{Stmt, out-Stmt}
 use Rattle.java_syntax.specs.declared.statement.Stmt.TheVariants.{outs-Local, outs-Assign, outs-Step, outs-Eval}
-use Rattle.java_syntax.specs.Lexeme.{Lexeme, lexeme, Then, sees}
-use Rattle.java_syntax.specs.Types.{IsIdent, IsType}
+use Rattle.token_reading.specs.Lexeme.{Lexeme, lexeme, Then, sees}
+use Rattle.token_reading.specs.Types.{IsIdent, IsType}
 use Rattle.java_syntax.specs.Exprs.{Layer, level, Within, Args}
 use Rattle.java_syntax.specs.Stmts.{assign_sign, step_sign, is_declaration, Initial, IsLocal, Unended, UnendedWithin}
-use Rattle.java_reading.specs.Outcome.{no_tree, too_high, Outcome}
-use Rattle.java_reading.specs.ReadType.{next, expect, expect_word, ident, type_tree}
+use Rattle.token_reading.specs.Outcome.{no_tree, too_high, Outcome}
+use Rattle.token_reading.specs.ReadType.{next, expect, expect_word, ident, type_tree, none_fits}
 use Rattle.java_reading.specs.ReadExpr.{Tall, Talls, args, reading}
-use Rattle.java_reading.specs.ReadStmt.{value, arguments, none_fits, is_post, assign_operator, assign_by, assign_at, step_operator, step_by, step_at, initial, local, declaration, step_before, assignment, step_behind, stepped_by, assigned_by, evaluated, simple_by, simple, unended}
+use Rattle.java_reading.specs.ReadStmt.{value, arguments, is_post, assign_operator, assign_by, assign_at, step_operator, step_by, step_at, initial, local, declaration, step_before, assignment, step_behind, stepped_by, assigned_by, evaluated, simple_by, simple, unended}
 use Rattle.java_reading.proofs.ArgsFacts.{ArgsFacts}
 use Rattle.java_reading.proofs.Claims.{Sound, ArgsSound}
 use Rattle.java_reading.proofs.ExprFacts.{ExprFacts}
 use Rattle.java_reading.proofs.Shorter.{args_length}
-use Rattle.java_reading.proofs.Steps.{Gives, gives, gives_none, gives_high, gives_then, gives_map, gives_if, plainly}
-use Rattle.java_reading.proofs.Tokens.{then_length, type_length, from_sees, expected, expected_word, ident_written, type_written}
+use Rattle.token_reading.proofs.Steps.{Gives, gives, gives_none, gives_high, gives_then, gives_map, gives_if, plainly}
+use Rattle.token_reading.proofs.Lexemes.{then_length, type_length, from_sees, expected, expected_word, ident_written, type_written}
 
 -- ---- What a reader gives is written by R, and takes a token.
 abbrev pub Takes : {A : Type 0} → (A → List Lexeme → List Lexeme → Type 0) → List Lexeme → Type 0 → Outcome A → Type 0
@@ -143,7 +143,7 @@ module _ (facts : ExprFacts) (n : ℕ) where
       (λ e ys w. gives (Some e) ys ((next xs, t, w.0), omega (arith, w.1, then_length _ xs (next xs) t))))
       (λ h. gives None xs (refl, omega arith))
 
-  local_gives : (xs : List Lexeme) → Takes (IsLocal (Within n)) xs (n < length xs) (local (value n) xs)
+  local_gives : (xs : List Lexeme) → Takes (IsLocal (Within n)) xs (n < length xs) (local n (value n) xs)
   unfolding local
   local_gives xs =
       gives_then (type_gives xs) (λ h. absurd h) (λ t ys w. gives_then (ident_gives ys) (λ h. absurd h) (λ x zs named.
@@ -154,7 +154,7 @@ module _ (facts : ExprFacts) (n : ℕ) where
   abbrev pub Short : Bool → Stmt → List Lexeme → List Lexeme → Type 0
   Short d t xs ys = (is_declaration (out-Stmt t) ≡ d) × Unended (Within n) (out-Stmt t) xs ys
 
-  pub declaration_gives : (xs : List Lexeme) → Takes (Short true) xs (n < length xs) (declaration (value n) xs)
+  pub declaration_gives : (xs : List Lexeme) → Takes (Short true) xs (n < length xs) (declaration n (value n) xs)
   unfolding declaration
   declaration_gives xs = gives_then (local_gives xs) (λ h. h) (λ t ys w. gives _ ys (rw (outs-Local t) (refl, w.0), w.1))
 

@@ -3,23 +3,23 @@ use Rattle.std.proofs.Common.{◌≡◌, ℕ, suc, ◌+◌, ◌≤◌, max, nat_
 use Rattle.java_tokens.specs.declared.token.Keyword.TheVariants as w
 use Rattle.java_tokens.specs.declared.token.Operator.TheVariants as o
 use Rattle.java_tokens.specs.declared.token.TokenKind.TheVariants as k
-use Rattle.java_syntax.specs.declared.name.Ident.{Ident}
-use Rattle.java_syntax.specs.declared.name.TypeTree.{TypeTree}
+use Rattle.token_reading.specs.declared.name.Ident.{Ident}
+use Rattle.token_reading.specs.declared.name.TypeTree.{TypeTree}
 use Rattle.java_syntax.specs.declared.operator.BinaryOp.{BinaryOp}
 use Rattle.java_syntax.specs.declared.expression.Expr.{out-Expr}
 use Rattle.java_syntax.specs.declared.expression.Expr.TheVariants as e
 use Rattle.java_syntax.specs.declared.expression.Expr.TheVariants.{rolls-Binary, rolls-InstanceOf, rolls-Conditional, rolls-Field, rolls-Method, rolls-Element}
 use Rattle.java_syntax.specs.declared.expression.Expr.TheOpen.{Expr-F}
-use Rattle.java_syntax.specs.Lexeme.{Lexeme, Then, sees}
-use Rattle.java_syntax.specs.Types.{IsIdent, IsType}
+use Rattle.token_reading.specs.Lexeme.{Lexeme, Then, sees}
+use Rattle.token_reading.specs.Types.{IsIdent, IsType}
 use Rattle.java_syntax.specs.Exprs.{binary_sign, binary_level, level, Within}
 use Rattle.java_reading.specs.declared.infix.Infix.{Infix}
 use Rattle.java_reading.specs.declared.infix.Infix.TheVariants as i
-use Rattle.java_reading.specs.Outcome.{no_tree, too_high, Outcome, Parser, ◌>>=◌}
-use Rattle.java_reading.specs.ReadType.{next, expect, ident, type_tree}
+use Rattle.token_reading.specs.Outcome.{no_tree, too_high, Outcome, Parser, ◌>>=◌}
+use Rattle.token_reading.specs.ReadType.{next, expect, ident, type_tree}
 use Rattle.java_reading.specs.ReadExpr.{Tall, Talls, binds, follows, args, operated, instance_of, conditional, element, member, behind}
-use Rattle.java_reading.proofs.Tests.{from_not_below}
-use Rattle.java_reading.proofs.Tokens.{then_length, type_length, from_sees, Plainly, Expected, expected, ident_written, type_written}
+use Rattle.token_reading.proofs.Tests.{from_not_below}
+use Rattle.token_reading.proofs.Lexemes.{then_length, type_length, from_sees, Plainly, Expected, expected, ident_written, type_written}
 use Rattle.java_reading.proofs.Levels.{after, binary_range, lifts, lifts_or, follows_most, name_stop}
 use Rattle.java_reading.proofs.Growing.{grown, leveled, args_map}
 use Rattle.java_reading.proofs.Claims.{Written, Sound, Higher, ArgsSound}
@@ -41,7 +41,7 @@ module _ (b : ℕ) (part : ℕ → Parser Tall) (sound : (l : ℕ) (xs : List Le
   binary_left op lv hold t (Ok p) s =
       let h = max left.1 p.0.1 in (
         wrote (suc b) h (h + 1) (Expr-F.Binary op left.0 p.0.0) (e.Binary op left.0 p.0.0) l xs p.1
-            (rolls-Binary op left.0 p.0.0) (omega arith) (omega (arith, s.0.low)) (omega (arith, lw.taken, then_length _ ys zs t, s.0.taken)) lv
+            (rolls-Binary op left.0 p.0.0) (omega arith) (omega arith) (omega (arith, s.0.low)) (omega (arith, lw.taken, then_length _ ys zs t, s.0.taken)) lv
             (omega (arith, s.1))
             (ys, as_operand h (binary_level op) (omega arith) hold, zs, t, grown p.0.1 h (omega arith) p.0.0 (binary_level op + 1) zs p.1 s.0.tree),
         omega arith,
@@ -56,7 +56,7 @@ module _ (b : ℕ) (part : ℕ → Parser Tall) (sound : (l : ℕ) (xs : List Le
       → Higher (suc b) l xs left.1 (if tight then Err no_tree else Ok ((e.InstanceOf left.0 t, left.1 + 1), us))
   test_end t us lv hold u v true tight = tt
   test_end t us lv hold u v false tight = (
-    wrote (suc b) left.1 (left.1 + 1) (Expr-F.InstanceOf left.0 t) (e.InstanceOf left.0 t) l xs us (rolls-InstanceOf left.0 t) (omega arith) (omega arith)
+    wrote (suc b) left.1 (left.1 + 1) (Expr-F.InstanceOf left.0 t) (e.InstanceOf left.0 t) l xs us (rolls-InstanceOf left.0 t) (omega arith) (omega arith) (omega arith)
         (omega (arith, lw.taken, then_length _ ys zs u, type_length t zs us v)) lv (from_not_below 8 (follows us) tight)
         (ys, as_operand left.1 8 (omega arith) hold, zs, u, v),
     omega arith,
@@ -76,7 +76,7 @@ module _ (b : ℕ) (part : ℕ → Parser Tall) (sound : (l : ℕ) (xs : List Le
   conditional_last us vs a lv hold t wa u (Ok p) s =
       let h = max left.1 (max a.1 p.0.1) in (
         wrote (suc b) h (h + 1) (Expr-F.Conditional left.0 a.0 p.0.0) (e.Conditional left.0 a.0 p.0.0) l xs p.1
-            (rolls-Conditional left.0 a.0 p.0.0) (omega arith) (omega (arith, s.0.low, wa.low))
+            (rolls-Conditional left.0 a.0 p.0.0) (omega arith) (omega arith) (omega (arith, s.0.low, wa.low))
             (omega (arith, lw.taken, then_length _ ys zs t, wa.taken, then_length _ us vs u, s.0.taken)) lv (omega (arith, s.1)) (
               ys,
               as_operand h 2 (omega arith) hold,
@@ -115,7 +115,7 @@ module _ (b : ℕ) (part : ℕ → Parser Tall) (sound : (l : ℕ) (xs : List Le
   element_close us i lv hold t wi (Ok p) u =
       let h = max left.1 i.1 in (
         wrote (suc b) h (h + 1) (Expr-F.Element left.0 i.0) (e.Element left.0 i.0) l xs p.1
-            (rolls-Element left.0 i.0) (omega arith) (omega (arith, wi.low))
+            (rolls-Element left.0 i.0) (omega arith) (omega arith) (omega (arith, wi.low))
             (omega (arith, lw.taken, then_length _ ys zs t, wi.taken, then_length _ us p.1 u)) lv (follows_most p.1)
             (ys, as_operand h 14 (omega arith) hold, zs, t, us, grown i.1 h (omega arith) i.0 1 zs us wi.tree, u),
         omega arith,
@@ -137,7 +137,7 @@ module _ (b : ℕ) (part : ℕ → Parser Tall) (sound : (l : ℕ) (xs : List Le
   method_left x us vs lv hold t u v (Ok p) s =
       let h = max left.1 p.0.1 in (
         wrote (suc b) h (h + 1) (Expr-F.Method left.0 x p.0.0) (e.Method left.0 x p.0.0) l xs p.1
-            (rolls-Method left.0 x p.0.0) (omega arith) (omega (arith, s.1))
+            (rolls-Method left.0 x p.0.0) (omega arith) (omega arith) (omega (arith, s.1))
             (omega (arith, lw.taken, then_length _ ys zs t, ap length u, then_length _ us vs v, s.2)) lv (follows_most p.1) (
               ys,
               as_operand h 14 (omega arith) hold,
@@ -162,7 +162,7 @@ module _ (b : ℕ) (part : ℕ → Parser Tall) (sound : (l : ℕ) (xs : List Le
       method_left x us (next us) lv hold t u (from_sees o.LeftParen us is) (args part (next us)) (args_sound b part sound (next us))
   member_test x us lv hold t u false is = (
     wrote (suc b) left.1 (left.1 + 1) (Expr-F.Field left.0 x) (e.Field left.0 x) l xs us
-        (rolls-Field left.0 x) (omega arith) (omega arith)
+        (rolls-Field left.0 x) (omega arith) (omega arith) (omega arith)
         (omega (arith, lw.taken, then_length _ ys zs t, ap length u)) lv (name_stop us is)
         (ys, as_operand left.1 14 (omega arith) hold, zs, t, u),
     omega arith,
@@ -176,7 +176,7 @@ module _ (b : ℕ) (part : ℕ → Parser Tall) (sound : (l : ℕ) (xs : List Le
   member_left lv hold t (Err no_tree) u = tt
   member_left lv hold t (Err too_high) u = absurd u
 
-  pub behind_left : (i : Infix) → l ≤ binds i → binds i ≤ after (out-Expr left.0) → Leads i ys → zs ≡ next ys → Higher (suc b) l xs left.1 (behind part left i zs)
+  pub behind_left : (i : Infix) → l ≤ binds i → binds i ≤ after (out-Expr left.0) → Leads i ys → zs ≡ next ys → Higher (suc b) l xs left.1 (behind b part left i zs)
   unfolding operated instance_of conditional element member
   behind_left (i.Binary op) lv hold t is =
       binary_left op lv (lifts (out-Expr left.0) (binary_level op) (omega (arith, (binary_range op).1)) hold) (rw is t) (part (binary_level op + 1) zs)

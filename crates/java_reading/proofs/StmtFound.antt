@@ -12,20 +12,21 @@ use Rattle.java_syntax.specs.declared.statement.Stmt.{Stmt, out-Stmt, roll-Stmt}
 use Rattle.java_syntax.specs.declared.statement.Stmt.TheOpen.{Stmt-F}
 use Rattle.java_syntax.specs.declared.statement.Stmt.TheVariants.{rolls-Empty, rolls-Block, rolls-Super, rolls-If, rolls-While, rolls-DoWhile, rolls-For, rolls-Return, rolls-Break, rolls-Continue, rolls-Throw, rolls-Try}
 use Rattle.java_syntax.specs.declared.statement.Stmt.TheViews.{roll-out-Stmt, roll-out-CatchTree}
-use Rattle.java_syntax.specs.Lexeme.{Lexeme, Then, sees, same_operator}
+use Rattle.token_reading.specs.Lexeme.{Lexeme, Then, sees, same_operator}
 use Rattle.java_syntax.specs.Exprs.{Within, Args}
 use Rattle.java_syntax.specs.Stmts.{StmtLayer, is_declaration, MayStand, Unended, UnendedWithin, Simple, MoreSimples, Simples, Declares, Start, Stmts, Condition, Ended, Otherwise, IsBlock, Catch, Catches, Finally, StmtNode, StmtWithin}
-use Rattle.java_reading.specs.ReadType.{is_local}
 use Rattle.java_reading.specs.ReadStmt.{step_operator, value, arguments, unended, stmts, block, inner_block, condition, ended, otherwise, if_stmt, while_stmt, do_stmt, more_simples, simples, start, for_stmt, return_stmt, throw_stmt, super_stmt, catch, catches, finally, try_stmt, local_stmt, simple_stmt, plain_stmt, stmt, statement}
 use Rattle.java_reading.proofs.ArgsFacts.{ArgsFacts}
 use Rattle.java_reading.proofs.Begins.{begins_operator}
 use Rattle.java_reading.proofs.Claims.{ArgsDone, args_done, args_over}
 use Rattle.java_reading.proofs.ExprFacts.{ExprFacts}
-use Rattle.java_reading.proofs.SimpleFound.{op_or, word_or, ident_or, no_sign, Closes, semicolon_closes, comma_closes, paren_closes, value_or, declaration_or, simple_or}
-use Rattle.java_reading.proofs.StmtLengths.{none_or, header_length, header_other, declares_local, header_simple_local, header_or, stmts_length, catches_length, stmt_length, stmt_no_brace, block_brace}
+use Rattle.java_reading.proofs.SimpleFound.{no_sign, Closes, semicolon_closes, comma_closes, paren_closes, value_or, declaration_or, simple_or}
+use Rattle.java_reading.proofs.StmtLengths.{header_length, header_other, declares_local, header_simple_local, header_or, stmts_length, catches_length, stmt_length, stmt_no_brace, block_brace}
 use Rattle.java_reading.proofs.StmtBegins.{more_simples_length, type_local, simple_local, unended_simple}
-use Rattle.java_reading.proofs.Steps.{Or, found, higher, or_then, raise}
-use Rattle.java_reading.proofs.Tokens.{sees_it, sees_word_it}
+use Rattle.token_reading.proofs.Steps.{Or, found, higher, or_then, raise}
+use Rattle.token_reading.proofs.Lexemes.{sees_it, sees_word_it}
+use Rattle.java_reading.specs.Lookahead.{is_local}
+use Rattle.token_reading.proofs.Found.{op_or, word_or, ident_or, none_or}
 
 -- what is known of the statements that are lower than the whole
 abbrev Finds : ℕ → ℕ → Type 0
@@ -170,7 +171,7 @@ module _ (facts : ExprFacts) (args_facts : ArgsFacts) (n b : ℕ) where
 
     plain_or : (f : StmtLayer) (in_block : Bool) (xs rest : List Lexeme) → is_declaration f ≡ false
         → ((ys : List Lexeme) × Unended (Within n) f xs ys × Then (k.Op o.Semicolon) ys rest)
-        → Or n b (stmt (value b) (arguments b) (unended b) (statement b) in_block xs) (Ok (roll-Stmt f, rest))
+        → Or n b (stmt b (value b) (arguments b) (unended b) (statement b) in_block xs) (Ok (roll-Stmt f, rest))
     unfolding stmt simple_stmt
     plain_or f in_block xs rest other w =
         let c = semicolon_closes w.0 rest w.2 in
@@ -182,7 +183,7 @@ module _ (facts : ExprFacts) (args_facts : ArgsFacts) (n b : ℕ) where
 
     node_or : (f : StmtLayer) (in_block : Bool) (xs rest : List Lexeme) → MayStand in_block f
         → StmtNode (Within n) (UnendedWithin n) (StmtWithin n) f xs rest
-        → Or n b (stmt (value b) (arguments b) (unended b) (statement b) in_block xs) (Ok (roll-Stmt f, rest))
+        → Or n b (stmt b (value b) (arguments b) (unended b) (statement b) in_block xs) (Ok (roll-Stmt f, rest))
     unfolding stmt plain_stmt block if_stmt while_stmt do_stmt for_stmt return_stmt throw_stmt super_stmt try_stmt local_stmt
     node_or Stmt-F.Empty in_block xs rest may w = rw (rolls-Empty, w.1) (found refl)
     node_or (Stmt-F.Block all) in_block xs rest may w =
@@ -230,5 +231,5 @@ stmt_found facts args_facts zero b in_block t xs rest w = absurd w
 stmt_found facts args_facts (suc n) zero in_block t xs rest w =
     none_or n xs (Ok (t, rest)) (omega (arith, stmt_length facts (suc n) in_block t xs rest w))
 stmt_found facts args_facts (suc n) (suc b) in_block t xs rest w =
-    raise (subst (λ (d : Stmt). Or n b (stmt (value b) (arguments b) (unended b) (statement b) in_block xs) (Ok (d, rest))) (roll-out-Stmt t)
+    raise (subst (λ (d : Stmt). Or n b (stmt b (value b) (arguments b) (unended b) (statement b) in_block xs) (Ok (d, rest))) (roll-out-Stmt t)
     (node_or facts args_facts n b (stmt_found facts args_facts n b) (out-Stmt t) in_block xs rest w.0 w.1))

@@ -12,11 +12,12 @@ use Rattle.java_syntax.specs.declared.statement.Stmt.{Stmt, out-Stmt, roll-Stmt}
 use Rattle.java_syntax.specs.declared.statement.Stmt.TheFolds.{fold-roll-Stmt, fold_out-CatchTree}
 use Rattle.java_syntax.specs.declared.statement.Stmt.TheOpen.{Stmt-F}
 use Rattle.java_syntax.specs.declared.statement.Stmt.TheViews.{roll-out-Stmt}
-use Rattle.java_syntax.specs.Lexeme.{Lexeme}
+use Rattle.token_reading.specs.Lexeme.{Lexeme}
 use Rattle.java_syntax.specs.Exprs.{Within}
 use Rattle.java_syntax.specs.Stmts.{StmtLayer, Initial, Steps, Unended, UnendedWithin, MoreSimples, Simples, Declares, Start, Stmts, Condition, Ended, Otherwise, IsBlock, Catches, Finally, StmtNode, StmtWithin}
-use Rattle.java_syntax.specs.Height.{highest, expr_height, value_height, stmt_layer_height, catch_layer_height, stmt_height, catch_height}
+use Rattle.java_syntax.specs.Height.{expr_height, value_height, stmt_layer_height, catch_layer_height, stmt_height, catch_height}
 use Rattle.java_reading.proofs.Growing.{at_most, args_low, args_fit, fitting}
+use Rattle.token_reading.specs.Height.{highest}
 
 -- ---- the height of a node, by those of its parts
 

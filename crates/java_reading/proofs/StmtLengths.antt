@@ -8,19 +8,20 @@ use Rattle.java_syntax.specs.declared.statement.CatchTree.{CatchTree, out-CatchT
 use Rattle.java_syntax.specs.declared.statement.Stmt.{Stmt, out-Stmt, roll-Stmt}
 use Rattle.java_syntax.specs.declared.statement.Stmt.TheOpen.{Stmt-F}
 use Rattle.java_syntax.specs.declared.statement.Stmt.TheViews.{roll-out-Stmt}
-use Rattle.java_syntax.specs.Lexeme.{Lexeme, sees, same_operator}
+use Rattle.token_reading.specs.Lexeme.{Lexeme, sees, same_operator}
 use Rattle.java_syntax.specs.Exprs.{Within}
 use Rattle.java_syntax.specs.Stmts.{StmtLayer, is_declaration, is_block, Unended, UnendedWithin, Simple, Simples, Declares, Start, Stmts, Condition, Ended, Otherwise, Catch, Catches, Finally, StmtNode, StmtWithin}
-use Rattle.java_reading.specs.Outcome.{Outcome}
-use Rattle.java_reading.specs.ReadType.{is_local}
-use Rattle.java_reading.specs.ReadStmt.{step_operator, none_fits, unended}
+use Rattle.token_reading.specs.Outcome.{Outcome}
+use Rattle.java_reading.specs.ReadStmt.{step_operator, unended}
 use Rattle.java_reading.proofs.Begins.{begins_operator}
 use Rattle.java_reading.proofs.ExprFacts.{ExprFacts}
 use Rattle.java_reading.proofs.Shorter.{args_length}
 use Rattle.java_reading.proofs.SimpleFound.{Closes, declaration_or, simple_or}
 use Rattle.java_reading.proofs.StmtBegins.{unended_length, more_simples_length, unended_other, type_local, simple_local}
-use Rattle.java_reading.proofs.Steps.{Or, higher, raise}
-use Rattle.java_reading.proofs.Tokens.{then_length, sees_it}
+use Rattle.token_reading.proofs.Steps.{Or, higher, raise}
+use Rattle.token_reading.proofs.Lexemes.{then_length, sees_it}
+use Rattle.java_reading.specs.Lookahead.{is_local}
+use Rattle.token_reading.specs.ReadType.{none_fits}
 
 -- with no budget left, a list that isn't empty is too high
 pub none_or : {A : Type 0} (n : ℕ) (xs : List Lexeme) (good : Outcome A) → 0 < length xs → Or (suc n) 0 (none_fits xs) good

@@ -8,24 +8,26 @@ use Rattle.java_tokens.specs.declared.token.Operator.{Operator}
 use Rattle.java_tokens.specs.declared.token.Operator.TheVariants as o
 use Rattle.java_tokens.specs.declared.token.TokenKind.{TokenKind}
 use Rattle.java_tokens.specs.declared.token.TokenKind.TheVariants as k
-use Rattle.java_syntax.specs.declared.name.Ident.{Ident}
+use Rattle.token_reading.specs.declared.name.Ident.{Ident}
 use Rattle.java_syntax.specs.declared.statement.CatchTree.{CatchTree, CatchTree-F}
 use Rattle.java_syntax.specs.declared.statement.Stmt.{Stmt, out-Stmt}
 use Rattle.java_syntax.specs.declared.statement.Stmt.TheOpen.{Stmt-F}
 use Rattle.java_syntax.specs.declared.statement.Stmt.TheVariants.{outs-Empty, outs-Block, outs-Super, outs-If, outs-While, outs-DoWhile, outs-For, outs-Return, outs-Break, outs-Continue, outs-Throw, outs-Try}
 use Rattle.java_syntax.specs.declared.statement.Stmt.TheViews.{out-roll-CatchTree}
-use Rattle.java_syntax.specs.Lexeme.{Lexeme, lexeme, Then, sees, sees_word, same_operator}
-use Rattle.java_syntax.specs.Types.{IsIdent}
+use Rattle.token_reading.specs.Lexeme.{Lexeme, lexeme, Then, sees, sees_word, same_operator}
+use Rattle.token_reading.specs.Types.{IsIdent}
 use Rattle.java_syntax.specs.Exprs.{Within}
 use Rattle.java_syntax.specs.Stmts.{StmtLayer, is_declaration, is_block, handles, MayStand, Unended, UnendedWithin, Simple, MoreSimples, Simples, Start, Stmts, Condition, Ended, Otherwise, IsBlock, Catch, Catches, Finally, StmtNode, StmtWithin}
-use Rattle.java_reading.specs.ReadType.{next, is_local}
+use Rattle.token_reading.specs.ReadType.{next}
 use Rattle.java_reading.specs.ReadStmt.{value, arguments, catch_clause, unended, stmts, block, inner_block, condition, ended, otherwise, if_stmt, while_stmt, do_stmt, more_simples, simples, start, for_stmt, return_stmt, throw_stmt, super_stmt, catch, catches, finally, try_stmt, local_stmt, simple_stmt, word_stmt, stmt_by, plain_stmt, stmt, statement}
 use Rattle.java_reading.proofs.ArgsFacts.{ArgsFacts}
 use Rattle.java_reading.proofs.ExprFacts.{ExprFacts}
-use Rattle.java_reading.proofs.SimpleSound.{Takes, MayTake, op_gives, word_gives, ident_gives, value_gives, arguments_gives, declaration_gives, simple_gives, none_gives, unended_gives}
+use Rattle.java_reading.proofs.SimpleSound.{value_gives, arguments_gives, declaration_gives, simple_gives, unended_gives}
 use Rattle.java_reading.proofs.StmtBegins.{unended_other}
-use Rattle.java_reading.proofs.Steps.{gives, gives_none, gives_then, gives_map, gives_if}
-use Rattle.java_reading.proofs.Tokens.{then_length, from_sees, from_sees_word}
+use Rattle.token_reading.proofs.Steps.{gives, gives_none, gives_then, gives_map, gives_if}
+use Rattle.token_reading.proofs.Lexemes.{then_length, from_sees, from_sees_word}
+use Rattle.java_reading.specs.Lookahead.{is_local}
+use Rattle.token_reading.proofs.Given.{Takes, MayTake, op_gives, word_gives, ident_gives, none_gives}
 
 -- what is known of the statements that are lower than the whole
 abbrev Gets : ℕ → Type 0
@@ -231,7 +233,7 @@ module _ (facts : ExprFacts) (args_facts : ArgsFacts) (n : ℕ) where
     may_stand d in_block (Stmt-F.Local t) is may = may (sym is)
     may_stand d in_block _ is may = tt
 
-    local_gives : (xs : List Lexeme) → Takes (Whole true) xs (suc n ≤ length xs) (local_stmt (value n) (arguments n) (unended n) (statement n) xs)
+    local_gives : (xs : List Lexeme) → Takes (Whole true) xs (suc n ≤ length xs) (local_stmt n (value n) (arguments n) (unended n) (statement n) xs)
     unfolding local_stmt
     local_gives xs =
         gives_then (declaration_gives facts n xs) (λ h. omega arith) (λ t ys w. gives_then (op_gives o.Semicolon ys) (λ h. absurd h) (λ _ zs u.
@@ -373,7 +375,7 @@ module _ (facts : ExprFacts) (args_facts : ArgsFacts) (n : ℕ) where
     plain_gives in_block (x ∷ xs) = kind_gives in_block x xs x.kind refl
 
     stmt_gives : (in_block : Bool) (xs : List Lexeme)
-        → Takes (Whole in_block) xs (suc n ≤ length xs) (stmt (value n) (arguments n) (unended n) (statement n) in_block xs)
+        → Takes (Whole in_block) xs (suc n ≤ length xs) (stmt n (value n) (arguments n) (unended n) (statement n) in_block xs)
     unfolding stmt
     stmt_gives true xs = gives_if (is_local xs) (λ h. local_gives xs) (λ h. plain_gives true xs)
     stmt_gives false xs = gives_if (is_local xs) (λ h. gives_none) (λ h. plain_gives false xs)

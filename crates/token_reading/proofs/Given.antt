@@ -91,12 +91,7 @@ module _ (n : ℕ) where
       gives_then (op_gives o.LeftParen xs) (λ h. absurd h) (λ _ ys t. gives_if (sees o.RightParen ys)
       (λ h. let u = from_sees o.RightParen ys h in
       gives [] (next ys) ((ys, t.0, u, omega arith), omega (arith, t.1, then_length _ ys (next ys) u)))
-      (λ h. gives_map (λ all us v. (
-        (
-          ys,
-          t.0,
-          subst (λ (l : List ParamTree). Params l ys us × (params_height l ≤ n)) (sym v.0.2) ((v.0.3, v.0.4, v.0.5), v.0.6),
-        ),
-        omega (arith, t.1, v.1),
-      ))
+      (λ h. gives_map (λ all us v.
+      let w = subst (λ (l : List ParamTree). Params l ys us × (params_height l ≤ n)) (sym v.0.2) ((v.0.3, v.0.4, v.0.5), v.0.6) in
+      ((ys, t.0, w.0, w.1), omega (arith, t.1, v.1)))
       (λ h. omega (arith, t.1)) (more_params_gives (length ys) [] ys)))

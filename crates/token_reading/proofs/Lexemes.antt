@@ -200,6 +200,10 @@ pub pairs_written : (most : ℕ) (xs : List Lexeme) → Limited (IsPairs most) (
 unfolding pairs
 pairs_written most xs = pairs_by most xs (brackets (length xs) 0 xs) (brackets_written (length xs) 0 xs (omega arith))
 
+pub pairs_low : (most d : ℕ) (xs rest : List Lexeme) → pairs most xs ≡ Ok (d, rest) → d ≤ most
+pairs_low most d xs rest is =
+    (subst (λ (o : Outcome ℕ). Limited (IsPairs most) (most < length xs) xs o) is (pairs_written most xs)).1
+
 -- a type of at most this height
 abbrev pub TypeWithin : ℕ → TypeTree → List Lexeme → List Lexeme → Type 0
 TypeWithin most t xs rest = IsType t xs rest × (type_height t ≤ most)
@@ -219,3 +223,7 @@ type_base most xs (Err too_high) s = absurd s
 pub type_written : (most : ℕ) (xs : List Lexeme) → Limited (TypeWithin most) (most < length xs) xs (type_tree most xs)
 unfolding type_tree
 type_written most xs = type_base most xs (base_type xs) (base_written xs)
+
+pub type_low : (most : ℕ) (t : TypeTree) (xs rest : List Lexeme) → type_tree most xs ≡ Ok (t, rest) → type_height t ≤ most
+type_low most t xs rest is =
+    (subst (λ (o : Outcome TypeTree). Limited (TypeWithin most) (most < length xs) xs o) is (type_written most xs)).1

@@ -1,5 +1,5 @@
 -- Trees that begin with a token of their own are read.
-use Rattle.std.proofs.Common.{◌≡◌, ℕ, suc, ◌+◌, ◌≤◌, List, ◌∷◌, length, Bool, true, false, refl, arith}
+use Rattle.std.proofs.Common.{◌≡◌, ℕ, suc, ◌+◌, ◌≤◌, max, List, ◌∷◌, Bool, true, false, Ok, refl, arith}
 use Rattle.java_tokens.specs.declared.token.Keyword.TheVariants as w
 use Rattle.java_tokens.specs.declared.token.Operator.TheVariants as o
 use Rattle.java_tokens.specs.declared.token.TokenKind.TheVariants as k
@@ -13,6 +13,8 @@ use Rattle.java_syntax.specs.declared.expression.Expr.{Expr}
 use Rattle.java_syntax.specs.declared.expression.Expr.TheVariants as e
 use Rattle.token_reading.specs.Lexeme.{Lexeme, lexeme, Then, same_operator, sees}
 use Rattle.token_reading.specs.Types.{IsIdent, IsBase, IsType, Brackets, castable}
+use Rattle.token_reading.specs.Height.{type_height}
+use Rattle.token_reading.specs.ReadType.{pairs, type_tree}
 use Rattle.java_syntax.specs.Exprs.{unary_sign, unary_level, truth, casts}
 use Rattle.java_reading.specs.ReadExpr.{named, cast, parens, operand, super_call, instance, array, creation, prefix_operator, prefix, precedence, reading}
 use Rattle.token_reading.proofs.Tests.{not_below}
@@ -98,7 +100,7 @@ unfolding reading precedence prefix array
 array_by n b l at c size d xs ys zs us vs ws rest is w t (done h hn hb r) u fit (found v) =
     goes (max d h + 1) (suc b) (omega arith) (omega (arith, pairs_low b d ws rest v)) (omega arith)
     (rw (is, array_base b at c ys zs us w t, t.1, expect_it o.LeftBracket t.0 us, r, u.1, expect_it o.RightBracket u.0 ws, v) refl)
-array_by n b l at c size d xs ys zs us vs ws rest is w t (done h hn hb r) u fit (higher up v) =
+array_by n b l at c size d xs ys zs us vs ws rest is w t (done h hn hb r) u fit (over_limit up v) =
     higher (omega arith)
     (rw (is, array_base b at c ys zs us w t, t.1, expect_it o.LeftBracket t.0 us, r, u.1, expect_it o.RightBracket u.0 ws, v) refl)
 array_by n b l at c size d xs ys zs us vs ws rest is w t (over hn r) u fit v =
@@ -145,7 +147,7 @@ cast_by n b l at t a xs ys zs us rest is some may u (done h hn hb r) fit (found 
     (rw (is, some, v, may, u.1, expect_it o.RightParen u.0 us, r) refl)
 cast_by n b l at t a xs ys zs us rest is some may u (over hn r) fit (found v) =
     higher (omega arith) (rw (is, some, v, may, u.1, expect_it o.RightParen u.0 us, r) refl)
-cast_by n b l at t a xs ys zs us rest is some may u s fit (higher up v) = higher (omega arith) (rw (is, some, v) refl)
+cast_by n b l at t a xs ys zs us rest is some may u s fit (over_limit up v) = higher (omega arith) (rw (is, some, v) refl)
 
 pub cast_goes : (n b l at : ℕ) (t : TypeTree) (a : Expr) (xs ys zs us rest : List Lexeme) → xs ≡ lexeme at (k.Op o.LeftParen) ∷ ys → casts ys ≡ true
     → IsType t ys zs → castable t ≡ true → Then (k.Op o.RightParen) zs us → Done n b 13 a us rest → type_height t ≤ n

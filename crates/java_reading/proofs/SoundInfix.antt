@@ -1,5 +1,5 @@
 -- What is read of trees that begin with an operand is written.
-use Rattle.std.proofs.Common.{◌≡◌, ℕ, suc, ◌+◌, ◌≤◌, max, nat_lt, if◌then◌else◌, List, length, Bool, true, false, Ok, Err, refl, ap, arith}
+use Rattle.std.proofs.Common.{◌≡◌, ℕ, suc, ◌+◌, ◌≤◌, ◌<◌, max, nat_lt, if◌then◌else◌, List, length, Bool, true, false, Ok, Err, refl, ap, arith}
 use Rattle.java_tokens.specs.declared.token.Keyword.TheVariants as w
 use Rattle.java_tokens.specs.declared.token.Operator.TheVariants as o
 use Rattle.java_tokens.specs.declared.token.TokenKind.TheVariants as k
@@ -11,7 +11,8 @@ use Rattle.java_syntax.specs.declared.expression.Expr.TheVariants as e
 use Rattle.java_syntax.specs.declared.expression.Expr.TheVariants.{rolls-Binary, rolls-InstanceOf, rolls-Conditional, rolls-Field, rolls-Method, rolls-Element}
 use Rattle.java_syntax.specs.declared.expression.Expr.TheOpen.{Expr-F}
 use Rattle.token_reading.specs.Lexeme.{Lexeme, Then, sees}
-use Rattle.token_reading.specs.Types.{IsIdent, IsType}
+use Rattle.token_reading.specs.Types.{IsIdent}
+use Rattle.token_reading.specs.Height.{type_height}
 use Rattle.java_syntax.specs.Exprs.{binary_sign, binary_level, level, Within}
 use Rattle.java_reading.specs.declared.infix.Infix.{Infix}
 use Rattle.java_reading.specs.declared.infix.Infix.TheVariants as i
@@ -19,7 +20,7 @@ use Rattle.token_reading.specs.Outcome.{no_tree, too_high, Outcome, Parser, ◌>
 use Rattle.token_reading.specs.ReadType.{next, expect, ident, type_tree}
 use Rattle.java_reading.specs.ReadExpr.{Tall, Talls, binds, follows, args, operated, instance_of, conditional, element, member, behind}
 use Rattle.token_reading.proofs.Tests.{from_not_below}
-use Rattle.token_reading.proofs.Lexemes.{then_length, type_length, from_sees, Plainly, Expected, expected, ident_written, type_written}
+use Rattle.token_reading.proofs.Lexemes.{then_length, type_length, from_sees, Limited, Plainly, Expected, expected, ident_written, TypeWithin, type_written}
 use Rattle.java_reading.proofs.Levels.{after, binary_range, lifts, lifts_or, follows_most, name_stop}
 use Rattle.java_reading.proofs.Growing.{grown, leveled, args_map}
 use Rattle.java_reading.proofs.Claims.{Written, Sound, Higher, ArgsSound}
@@ -51,22 +52,26 @@ module _ (b : ℕ) (part : ℕ → Parser Tall) (sound : (l : ℕ) (xs : List Le
 
   -- ---- `instanceof`
 
-  test_end : (t : TypeTree) (us : List Lexeme) → l ≤ 8 → 8 ≤ level (out-Expr left.0) → Then (k.Word w.Instanceof) ys zs → IsType t zs us
+  test_end : (t : TypeTree) (us : List Lexeme) → l ≤ 8 → 8 ≤ level (out-Expr left.0) → Then (k.Word w.Instanceof) ys zs → TypeWithin b t zs us
       → (tight : Bool) → nat_lt 8 (follows us) ≡ tight
-      → Higher (suc b) l xs left.1 (if tight then Err no_tree else Ok ((e.InstanceOf left.0 t, left.1 + 1), us))
+      → Higher (suc b) l xs left.1 (if tight then Err no_tree else Ok ((e.InstanceOf left.0 t, max (type_height t) left.1 + 1), us))
   test_end t us lv hold u v true tight = tt
-  test_end t us lv hold u v false tight = (
-    wrote (suc b) left.1 (left.1 + 1) (Expr-F.InstanceOf left.0 t) (e.InstanceOf left.0 t) l xs us (rolls-InstanceOf left.0 t) (omega arith) (omega arith) (omega arith)
-        (omega (arith, lw.taken, then_length _ ys zs u, type_length t zs us v)) lv (from_not_below 8 (follows us) tight)
-        (ys, as_operand left.1 8 (omega arith) hold, zs, u, v),
-    omega arith,
-  )
+  test_end t us lv hold u v false tight =
+      let h = max (type_height t) left.1 in (
+        wrote (suc b) h (h + 1) (Expr-F.InstanceOf left.0 t) (e.InstanceOf left.0 t) l xs us (rolls-InstanceOf left.0 t) (omega arith) (omega arith)
+            (omega (arith, v.1))
+            (omega (arith, lw.taken, then_length _ ys zs u, type_length t zs us v.0)) lv (from_not_below 8 (follows us) tight)
+            (ys, as_operand h 8 (omega arith) hold, zs, u, v.0),
+        omega arith,
+      )
 
-  test_left : l ≤ 8 → 8 ≤ level (out-Expr left.0) → Then (k.Word w.Instanceof) ys zs → (r : Outcome TypeTree) → Plainly IsType zs r
-      → Higher (suc b) l xs left.1 (r >>= (λ t us. if nat_lt 8 (follows us) then Err no_tree else Ok ((e.InstanceOf left.0 t, left.1 + 1), us)))
+  test_left : l ≤ 8 → 8 ≤ level (out-Expr left.0) → Then (k.Word w.Instanceof) ys zs → (r : Outcome TypeTree)
+      → Limited (TypeWithin b) (b < length zs) zs r
+      → Higher (suc b) l xs left.1 (r >>= (λ t us.
+      if nat_lt 8 (follows us) then Err no_tree else Ok ((e.InstanceOf left.0 t, max (type_height t) left.1 + 1), us)))
   test_left lv hold u (Ok p) v = test_end p.0 p.1 lv hold u v (nat_lt 8 (follows p.1)) refl
   test_left lv hold u (Err no_tree) v = tt
-  test_left lv hold u (Err too_high) v = absurd v
+  test_left lv hold u (Err too_high) v = omega (arith, lw.taken, then_length _ ys zs u)
 
   -- ---- `?` and `:`
 
@@ -181,7 +186,7 @@ module _ (b : ℕ) (part : ℕ → Parser Tall) (sound : (l : ℕ) (xs : List Le
   behind_left (i.Binary op) lv hold t is =
       binary_left op lv (lifts (out-Expr left.0) (binary_level op) (omega (arith, (binary_range op).1)) hold) (rw is t) (part (binary_level op + 1) zs)
       (sound (binary_level op + 1) zs (omega arith) (omega (arith, (binary_range op).1)))
-  behind_left i.InstanceOf lv hold t is = test_left lv (lifts (out-Expr left.0) 8 (omega arith) hold) (rw is t) (type_tree zs) (type_written zs)
+  behind_left i.InstanceOf lv hold t is = test_left lv (lifts (out-Expr left.0) 8 (omega arith) hold) (rw is t) (type_tree b zs) (type_written b zs)
   behind_left i.Question lv hold t is = conditional_left lv (lifts_or (out-Expr left.0) hold) (rw is t) (part 1 zs) (sound 1 zs (omega arith) (omega arith))
   behind_left i.Dot lv hold t is = member_left lv (lifts (out-Expr left.0) 14 (omega arith) hold) (rw is t) (ident zs) (ident_written zs)
   behind_left i.Bracket lv hold t is = element_left lv (lifts (out-Expr left.0) 14 (omega arith) hold) (rw is t) (part 1 zs) (sound 1 zs (omega arith) (omega arith))

@@ -1,5 +1,5 @@
 -- What is read of names, operators before an operand and parentheses is written.
-use Rattle.std.proofs.Common.{◌≡◌, ℕ, suc, ◌+◌, ◌≤◌, nat_lt, if◌then◌else◌, List, ◌∷◌, length, Bool, true, false, Ok, Err, refl, ap, arith}
+use Rattle.std.proofs.Common.{◌≡◌, ℕ, suc, ◌+◌, ◌≤◌, ◌<◌, max, nat_lt, if◌then◌else◌, List, ◌∷◌, length, Bool, true, false, Ok, Err, refl, ap, arith}
 use Rattle.java_tokens.specs.declared.token.Operator.TheVariants as o
 use Rattle.java_tokens.specs.declared.token.TokenKind.TheVariants as k
 use Rattle.token_reading.specs.declared.name.Ident.{Ident}
@@ -9,14 +9,16 @@ use Rattle.java_syntax.specs.declared.expression.Expr.TheVariants as e
 use Rattle.java_syntax.specs.declared.expression.Expr.TheVariants.{rolls-Name, rolls-Call, rolls-Paren, rolls-Unary, rolls-Cast}
 use Rattle.java_syntax.specs.declared.expression.Expr.TheOpen.{Expr-F}
 use Rattle.token_reading.specs.Lexeme.{Lexeme, lexeme, Then, sees}
-use Rattle.token_reading.specs.Types.{IsIdent, IsType, castable}
+use Rattle.token_reading.specs.Types.{IsIdent, castable}
+use Rattle.token_reading.specs.Height.{type_height}
 use Rattle.java_syntax.specs.Exprs.{unary_sign, unary_level, casts}
 use Rattle.token_reading.specs.Outcome.{no_tree, too_high, Outcome, Parser, ◌>>=◌}
 use Rattle.token_reading.specs.ReadType.{next, expect, type_tree}
 use Rattle.java_reading.specs.ReadExpr.{Tall, Talls, args, named, cast, parens, operand}
 use Rattle.token_reading.proofs.Tests.{from_not_below}
-use Rattle.token_reading.proofs.Lexemes.{then_length, type_length, from_sees, Plainly, Expected, expected, type_written}
+use Rattle.token_reading.proofs.Lexemes.{then_length, type_length, from_sees, Limited, Expected, expected, TypeWithin, type_written}
 use Rattle.java_reading.proofs.Levels.{follows_most, name_stop}
+use Rattle.java_reading.proofs.Growing.{grown}
 use Rattle.java_reading.proofs.Claims.{Written, Sound, Left, ArgsSound}
 use Rattle.java_reading.proofs.Written.{wrote, leaf}
 use Rattle.java_reading.proofs.SoundArgs.{args_sound}
@@ -61,34 +63,39 @@ module _ (b : ℕ) (part : ℕ → Parser Tall) (sound : (l : ℕ) (xs : List Le
 
   -- ---- casts
 
-  cast_operand : (l at : ℕ) (t : TypeTree) (xs ys zs us : List Lexeme) → l ≤ 13 → xs ≡ lexeme at (k.Op o.LeftParen) ∷ ys → IsType t ys zs → castable t ≡ true
-      → Then (k.Op o.RightParen) zs us → (r : Outcome Tall) → Sound b 13 us r → Left (suc b) l xs (r >>= (λ a vs. Ok ((e.Cast at t a.0, a.1 + 1), vs)))
+  cast_operand : (l at : ℕ) (t : TypeTree) (xs ys zs us : List Lexeme) → l ≤ 13 → xs ≡ lexeme at (k.Op o.LeftParen) ∷ ys → TypeWithin b t ys zs
+      → castable t ≡ true → Then (k.Op o.RightParen) zs us → (r : Outcome Tall) → Sound b 13 us r
+      → Left (suc b) l xs (r >>= (λ a vs. Ok ((e.Cast at t a.0, max (type_height t) a.1 + 1), vs)))
   cast_operand l at t xs ys zs us high is w may u (Ok p) s =
-      wrote (suc b) p.0.1 (p.0.1 + 1) (Expr-F.Cast at t p.0.0) (e.Cast at t p.0.0) l xs p.1 (rolls-Cast at t p.0.0) (omega arith) (omega arith) (omega (arith, s.0.low))
-      (omega (arith, ap length is, type_length t ys zs w, then_length _ zs us u, s.0.taken)) high (omega (arith, s.1))
-      (ys, is, zs, w, may, us, u, s.0.tree)
+      let h = max (type_height t) p.0.1 in
+      wrote (suc b) h (h + 1) (Expr-F.Cast at t p.0.0) (e.Cast at t p.0.0) l xs p.1 (rolls-Cast at t p.0.0) (omega arith) (omega arith)
+      (omega (arith, w.1, s.0.low))
+      (omega (arith, ap length is, type_length t ys zs w.0, then_length _ zs us u, s.0.taken)) high (omega (arith, s.1))
+      (ys, is, zs, w.0, may, us, u, grown p.0.1 h (omega arith) p.0.0 13 us p.1 s.0.tree)
   cast_operand l at t xs ys zs us high is w may u (Err no_tree) s = tt
-  cast_operand l at t xs ys zs us high is w may u (Err too_high) s = omega (arith, ap length is, type_length t ys zs w, then_length _ zs us u)
+  cast_operand l at t xs ys zs us high is w may u (Err too_high) s = omega (arith, ap length is, type_length t ys zs w.0, then_length _ zs us u)
 
-  cast_close : (l at : ℕ) (t : TypeTree) (xs ys zs : List Lexeme) → l ≤ 13 → xs ≡ lexeme at (k.Op o.LeftParen) ∷ ys → IsType t ys zs → castable t ≡ true
-      → (r : Outcome (Unit {0})) → Expected o.RightParen zs r
-      → Left (suc b) l xs (r >>= (λ _ us. part 13 us >>= (λ a vs. Ok ((e.Cast at t a.0, a.1 + 1), vs))))
+  cast_close : (l at : ℕ) (t : TypeTree) (xs ys zs : List Lexeme) → l ≤ 13 → xs ≡ lexeme at (k.Op o.LeftParen) ∷ ys → TypeWithin b t ys zs
+      → castable t ≡ true → (r : Outcome (Unit {0})) → Expected o.RightParen zs r
+      → Left (suc b) l xs (r >>= (λ _ us. part 13 us >>= (λ a vs. Ok ((e.Cast at t a.0, max (type_height t) a.1 + 1), vs))))
   cast_close l at t xs ys zs high is w may (Ok p) u = cast_operand l at t xs ys zs p.1 high is w may u (part 13 p.1) (sound 13 p.1 (omega arith) (omega arith))
   cast_close l at t xs ys zs high is w may (Err no_tree) u = tt
   cast_close l at t xs ys zs high is w may (Err too_high) u = absurd u
 
-  cast_test : (l at : ℕ) (t : TypeTree) (xs ys zs : List Lexeme) → l ≤ 13 → xs ≡ lexeme at (k.Op o.LeftParen) ∷ ys → IsType t ys zs
+  cast_test : (l at : ℕ) (t : TypeTree) (xs ys zs : List Lexeme) → l ≤ 13 → xs ≡ lexeme at (k.Op o.LeftParen) ∷ ys → TypeWithin b t ys zs
       → (may : Bool) → castable t ≡ may
-      → Left (suc b) l xs (if may then (expect o.RightParen zs >>= (λ _ us. part 13 us >>= (λ a vs. Ok ((e.Cast at t a.0, a.1 + 1), vs)))) else Err no_tree)
+      → Left (suc b) l xs (if may then
+        (expect o.RightParen zs >>= (λ _ us. part 13 us >>= (λ a vs. Ok ((e.Cast at t a.0, max (type_height t) a.1 + 1), vs)))) else Err no_tree)
   cast_test l at t xs ys zs high is w true may = cast_close l at t xs ys zs high is w may (expect o.RightParen zs) (expected o.RightParen zs)
   cast_test l at t xs ys zs high is w false may = tt
 
-  cast_left : (l at : ℕ) (xs ys : List Lexeme) → l ≤ 13 → xs ≡ lexeme at (k.Op o.LeftParen) ∷ ys → (r : Outcome TypeTree) → Plainly IsType ys r
-      → Left (suc b) l xs (r >>= (λ t zs.
-      if castable t then (expect o.RightParen zs >>= (λ _ us. part 13 us >>= (λ a vs. Ok ((e.Cast at t a.0, a.1 + 1), vs)))) else Err no_tree))
+  cast_left : (l at : ℕ) (xs ys : List Lexeme) → l ≤ 13 → xs ≡ lexeme at (k.Op o.LeftParen) ∷ ys → (r : Outcome TypeTree)
+      → Limited (TypeWithin b) (b < length ys) ys r
+      → Left (suc b) l xs (r >>= (λ t zs. if castable t then
+        (expect o.RightParen zs >>= (λ _ us. part 13 us >>= (λ a vs. Ok ((e.Cast at t a.0, max (type_height t) a.1 + 1), vs)))) else Err no_tree))
   cast_left l at xs ys high is (Ok p) w = cast_test l at p.0 xs ys p.1 high is w (castable p.0) refl
   cast_left l at xs ys high is (Err no_tree) w = tt
-  cast_left l at xs ys high is (Err too_high) w = absurd w
+  cast_left l at xs ys high is (Err too_high) w = omega (arith, ap length is)
 
   -- ---- parentheses
 
@@ -109,7 +116,7 @@ module _ (b : ℕ) (part : ℕ → Parser Tall) (sound : (l : ℕ) (xs : List Le
   parens_test : (l at : ℕ) (xs ys : List Lexeme) → l ≤ 13 → xs ≡ lexeme at (k.Op o.LeftParen) ∷ ys → (t : Bool) → casts ys ≡ t
       → Left (suc b) l xs (if t then cast b part at ys else (part 1 ys >>= (λ a zs. expect o.RightParen zs >>= (λ _ us. Ok ((e.Paren at a.0, a.1 + 1), us)))))
   unfolding cast
-  parens_test l at xs ys high is true t = cast_left l at xs ys high is (type_tree ys) (type_written ys)
+  parens_test l at xs ys high is true t = cast_left l at xs ys high is (type_tree b ys) (type_written b ys)
   parens_test l at xs ys high is false t = paren_left l at xs ys high is t (part 1 ys) (sound 1 ys (omega arith) (omega arith))
 
   pub parens_left : (l at : ℕ) (xs ys : List Lexeme) → l ≤ 13 → xs ≡ lexeme at (k.Op o.LeftParen) ∷ ys → Left (suc b) l xs (parens b part at ys)

@@ -36,7 +36,7 @@ ident_gives xs = gives_map (λ x ys w. (w, omega (arith, ap length w))) (λ h. h
 
 pub type_gives : (n : ℕ) (xs : List Lexeme) → Takes (TypeWithin n) xs (n < length xs) (type_tree n xs)
 type_gives n xs =
-    gives_map (λ t ys w. (w, type_length t xs ys w.0)) (λ h. h) (limited (TypeWithin n) (n < length xs) xs (type_tree n xs) (type_written n xs))
+    gives_map (λ t ys w. (w, omega (arith, type_length t xs ys w.0))) (λ h. h) (limited (TypeWithin n) (n < length xs) xs (type_tree n xs) (type_written n xs))
 
 -- ---- with no budget left
 

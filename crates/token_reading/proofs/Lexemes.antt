@@ -69,7 +69,7 @@ base_read base.Int xs rest t = rw t.1 refl
 base_read base.Boolean xs rest t = rw t.1 refl
 base_read (base.Class x) xs rest w = rw w refl
 
-pub type_length : (t : TypeTree) (xs rest : List Lexeme) → IsType t xs rest → length rest < length xs
+pub type_length : (t : TypeTree) (xs rest : List Lexeme) → IsType t xs rest → type_height t + length rest < length xs
 type_length t xs rest w = omega (arith, base_length t.base xs w.0 w.1, brackets_length t.dimensions w.0 rest w.2)
 
 -- ---- what is read is written

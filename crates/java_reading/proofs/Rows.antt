@@ -11,7 +11,7 @@ use Rattle.java_syntax.specs.declared.operator.UnaryOp.TheVariants as unary
 use Rattle.java_syntax.specs.declared.expression.Expr.TheVariants as e
 use Rattle.token_reading.specs.Lexeme.{Lexeme, lexeme, same_operator}
 use Rattle.token_reading.specs.Outcome.{no_tree, too_high, Outcome}
-use Rattle.token_reading.specs.ReadType.{expect, ident_at, ident, brackets, pairs, base_type, type_of, type_tree}
+use Rattle.token_reading.specs.ReadType.{expect, none_fits, ident_at, ident, brackets, pairs, base_type, type_of, type_tree}
 use Rattle.java_reading.specs.ReadExpr.{Tall, more_args, args, named, cast, parens, operand, super_call, instance, array, creation, prefix, member, element, conditional, instance_of, operated, climb, precedence, reading}
 
 -- these tokens, numbered from the number on
@@ -201,7 +201,7 @@ creation_of_instance = refl
 
 -- `new int[3][][]`
 array_of_arrays : read (k.Word w.New ∷ k.Word w.Int ∷ k.Op o.LeftBracket ∷ k.Number 3 ∷ k.Op o.RightBracket ∷ k.Op o.LeftBracket ∷ k.Op o.RightBracket ∷ k.Op o.LeftBracket ∷ k.Op o.RightBracket ∷ []) ≡
-    Ok ((e.NewArray 0 base.Int (e.Number 3 3) 2, 2), [])
+    Ok ((e.NewArray 0 base.Int (e.Number 3 3) 2, 3), [])
 unfolding reading precedence prefix climb creation array base_type pairs brackets expect same_operator
 array_of_arrays = refl
 
@@ -233,10 +233,21 @@ as_high = refl
 
 too_high_by_one : reading 2 1 (row 0 (k.Op o.LeftParen ∷ k.Op o.LeftParen ∷ k.Number 1 ∷ k.Op o.RightParen ∷ k.Op o.RightParen ∷ [])) ≡
     Err too_high
-unfolding reading precedence prefix climb parens
+unfolding reading precedence prefix climb parens none_fits
 too_high_by_one = refl
 
 -- `1 + 2 + 3` has height 3
 chain_too_high : reading 2 1 (row 0 (k.Number 1 ∷ k.Op o.Plus ∷ k.Number 2 ∷ k.Op o.Plus ∷ k.Number 3 ∷ [])) ≡ Err too_high
 unfolding reading precedence prefix climb operated
 chain_too_high = refl
+
+-- `(A[][]) b` has height 3
+type_as_high : reading 3 1 (row 0 (k.Op o.LeftParen ∷ name 65 ∷ k.Op o.LeftBracket ∷ k.Op o.RightBracket ∷ k.Op o.LeftBracket ∷ k.Op o.RightBracket ∷ k.Op o.RightParen ∷ name 98 ∷ [])) ≡
+    Ok ((e.Cast 0 (type_of (base.Class (at 1 65)) 2) (e.Name (at 7 98)), 3), [])
+unfolding reading precedence prefix climb parens cast named expect base_type type_tree pairs brackets same_operator
+type_as_high = refl
+
+type_too_high : reading 2 1 (row 0 (k.Op o.LeftParen ∷ name 65 ∷ k.Op o.LeftBracket ∷ k.Op o.RightBracket ∷ k.Op o.LeftBracket ∷ k.Op o.RightBracket ∷ k.Op o.RightParen ∷ name 98 ∷ [])) ≡
+    Err too_high
+unfolding reading precedence prefix climb parens cast expect base_type type_tree pairs brackets same_operator
+type_too_high = refl

@@ -21,7 +21,7 @@ use Rattle.java_reading.proofs.StmtBegins.{unended_length, more_simples_length, 
 use Rattle.token_reading.proofs.Steps.{Or, higher, raise}
 use Rattle.token_reading.proofs.Lexemes.{then_length, sees_it}
 use Rattle.java_reading.specs.Lookahead.{is_local}
-use Rattle.token_reading.specs.ReadType.{none_fits}
+use Rattle.token_reading.proofs.Found.{none_or}
 
 module _ (facts : ExprFacts) where
   -- ---- in the header of a `for`

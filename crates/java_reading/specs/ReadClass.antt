@@ -21,7 +21,7 @@ use Rattle.token_reading.specs.declared.name.TypeTree.{TypeTree}
 use Rattle.java_syntax.specs.declared.statement.Stmt.{Stmt}
 use Rattle.token_reading.specs.Lexeme.{Lexeme, sees, sees_word}
 use Rattle.token_reading.specs.Outcome.{no_tree, Parser, ◌>>=◌}
-use Rattle.token_reading.specs.ReadType.{next, expect, expect_word, sees_name, ident, type_tree, none_fits}
+use Rattle.token_reading.specs.ReadType.{next, expect, expect_word, none_fits, sees_name, ident, type_tree, params}
 use Rattle.java_reading.specs.ReadStmt.{value, initial, body}
 
 -- ---- modifiers

@@ -16,9 +16,7 @@ mod height;
 mod operator;
 mod statement;
 
-pub use class::{
-    ClassTree, FieldTree, FileTree, MakerTree, Member, MethodTree, Modifier, Mods,
-};
+pub use class::{ClassTree, FieldTree, FileTree, MakerTree, Member, MethodTree, Modifier, Mods};
 pub use expression::Expr;
 pub use operator::{AssignOp, BinaryOp, Fix, StepOp, UnaryOp};
 pub use statement::{CatchTree, LocalTree, Stmt};

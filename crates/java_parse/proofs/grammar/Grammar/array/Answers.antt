@@ -23,4 +23,4 @@ returns-in_err-dimensions-clause-reads g c =
 pub returns-clause-reads : goal.returns-clause-reads
 unfolding array
 returns-clause-reads g c =
-    rw (c.in_ok-expect.ensures, c.in_ok-size.ensures.reads, c.in_ok-expect-2.ensures, c.in_ok-dimensions.ensures.reads, c.in_ok-tree.ensures) refl
+    rw (c.in_ok-expect.ensures, c.in_ok-size.ensures.reads, c.in_ok-expect-2.ensures, c.in_ok-dimensions.ensures.reads, c.in_ok-tree.ensures, c.max.ensures) refl

@@ -1,7 +1,7 @@
 //! What each class declares by itself, and the rules on superclasses and on the names of constructors.
 
 ghost use Rattle.std.specs.Prelude.{◌≡◌, ◌⊎◌, ◌+◌, ◌≤◌, ◌++◌, length, IfOk, IfErr, OnOk};
-ghost use Rattle.java_syntax.specs.declared.fault.Fault.{Fault};
+ghost use Rattle.token_reading.specs.declared.fault.Fault.{Fault};
 ghost use Rattle.class_table.specs.BuiltIn as spec_built;
 ghost use Rattle.class_table.specs.Declarations as spec;
 ghost use Rattle.class_table.specs.Names.{library_names};

@@ -1,9 +1,9 @@
 -- What is known of each kind of expression, from what is known of its parts.
 use Rattle.std.proofs.Common.{◌≡◌, ◌∙◌, ℕ, Bool, List, map, sym, ap}
-use Rattle.java_syntax.specs.declared.name.Ident.{Ident}
-use Rattle.java_syntax.specs.declared.name.TypeTree.{TypeTree}
-use Rattle.java_syntax.specs.declared.name.BaseType.{BaseType}
-use Rattle.java_syntax.specs.declared.fault.CheckError.{CheckError}
+use Rattle.token_reading.specs.declared.name.Ident.{Ident}
+use Rattle.token_reading.specs.declared.name.TypeTree.{TypeTree}
+use Rattle.token_reading.specs.declared.name.BaseType.{BaseType}
+use Rattle.token_reading.specs.declared.fault.CheckError.{CheckError}
 use Rattle.java_syntax.specs.declared.operator.UnaryOp.{UnaryOp}
 use Rattle.java_syntax.specs.declared.operator.BinaryOp.{BinaryOp}
 use Rattle.java_syntax.specs.declared.expression.Expr.{Expr}

@@ -4,9 +4,9 @@ use Rattle.std.specs.Prelude.{Result}
 use Rattle.core_tree.specs.declared.ty.Ty.{Ty}
 use Rattle.core_tree.specs.declared.expr.Expr.{Expr as Core}
 use Rattle.core_tree.specs.declared.expr.Expr.TheVariants as core
-use Rattle.java_syntax.specs.declared.fault.CheckError.{CheckError}
-use Rattle.java_syntax.specs.declared.fault.CheckError.TheVariants as error
-use Rattle.java_syntax.specs.declared.name.Ident.{Ident}
+use Rattle.token_reading.specs.declared.fault.CheckError.{CheckError}
+use Rattle.token_reading.specs.declared.fault.CheckError.TheVariants as error
+use Rattle.token_reading.specs.declared.name.Ident.{Ident}
 use Rattle.java_syntax.specs.declared.expression.Expr.TheOpen.{Expr-F}
 use Rattle.java_names.specs.declared.symbol.FieldSymbol.{FieldSymbol}
 use Rattle.java_names.specs.declared.scope.Scope.{Scope}

@@ -2,8 +2,8 @@
 use Rattle.std.proofs.Common.{◌≡◌, ℕ, true, false, None, [], ◌++◌, ◌⊎◌, refl, inl, inr}
 use Rattle.core_tree.specs.declared.ty.Ty.{Ty}
 use Rattle.core_tree.specs.Types.{elements_of, is_int}
-use Rattle.java_syntax.specs.declared.fault.CheckError.{CheckError}
-use Rattle.java_syntax.specs.declared.fault.CheckError.TheVariants as error
+use Rattle.token_reading.specs.declared.fault.CheckError.{CheckError}
+use Rattle.token_reading.specs.declared.fault.CheckError.TheVariants as error
 use Rattle.java_syntax.specs.declared.operator.UnaryOp.TheVariants as unary
 use Rattle.java_syntax.specs.declared.expression.Expr.TheOpen.{Expr-F}
 use Rattle.java_names.specs.declared.scope.Scope.{Scope}

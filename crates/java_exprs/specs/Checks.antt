@@ -1,8 +1,8 @@
 -- What is known of an expression, from its nodes upward, and what a check of it answers.
 use Rattle.std.specs.Prelude.{ℕ, ◌≡◌, Bool, map, List, [], ◌∷◌, ◌++◌, Some, Result, Ok, Err, ◌⊎◌}
-use Rattle.java_syntax.specs.declared.fault.Fault.{Fault}
-use Rattle.java_syntax.specs.declared.fault.CheckError.{CheckError}
-use Rattle.java_syntax.specs.declared.fault.CheckError.TheVariants as error
+use Rattle.token_reading.specs.declared.fault.Fault.{Fault}
+use Rattle.token_reading.specs.declared.fault.CheckError.{CheckError}
+use Rattle.token_reading.specs.declared.fault.CheckError.TheVariants as error
 use Rattle.java_syntax.specs.declared.expression.Expr.{Expr}
 use Rattle.java_syntax.specs.declared.expression.Expr.TheOpen.{Expr-F}
 use Rattle.java_syntax.specs.declared.expression.Expr.TheFolds.{fold-Expr}

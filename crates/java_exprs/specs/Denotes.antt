@@ -6,7 +6,7 @@ use Rattle.core_tree.specs.declared.ty.Ty.{Ty}
 use Rattle.core_tree.specs.declared.ty.Ty.TheVariants as ty
 use Rattle.core_tree.specs.declared.ty.Ty.TheViews as type
 use Rattle.core_tree.specs.Types.{elements_of, is_boolean, is_string}
-use Rattle.java_syntax.specs.declared.name.Ident.{Ident}
+use Rattle.token_reading.specs.declared.name.Ident.{Ident}
 use Rattle.java_syntax.specs.declared.operator.UnaryOp.{UnaryOp}
 use Rattle.java_syntax.specs.declared.operator.UnaryOp.TheVariants as unary
 use Rattle.java_syntax.specs.declared.operator.BinaryOp.{BinaryOp}

@@ -2,8 +2,8 @@
 use Rattle.std.specs.Prelude.{ℕ, ◌==◌, Bool, List, Option, Some, None, find, option_map, option_and_then, slice_get, if◌then◌else◌}
 use Rattle.core_tree.specs.declared.ty.Ty.{Ty}
 use Rattle.core_tree.specs.Types.{is_void}
-use Rattle.java_syntax.specs.declared.name.TypeTree.{TypeTree}
-use Rattle.java_syntax.specs.declared.name.BaseType.{BaseType}
+use Rattle.token_reading.specs.declared.name.TypeTree.{TypeTree}
+use Rattle.token_reading.specs.declared.name.BaseType.{BaseType}
 use Rattle.class_table.specs.Names.{Name}
 use Rattle.java_names.specs.declared.symbol.FieldSymbol.{FieldSymbol}
 use Rattle.java_names.specs.declared.symbol.MethodSymbol.{MethodSymbol}

@@ -12,12 +12,12 @@ use Rattle.core_tree.specs.declared.expr.Site.{Site}
 use Rattle.core_tree.specs.declared.expr.Expr.{Expr as Core}
 use Rattle.core_tree.specs.declared.expr.Expr.TheVariants as core
 use Rattle.core_tree.specs.declared.expr.Expr.TheViews as view
-use Rattle.java_syntax.specs.declared.name.Ident.{Ident}
+use Rattle.token_reading.specs.declared.name.Ident.{Ident}
 use Rattle.java_syntax.specs.declared.operator.UnaryOp.{UnaryOp}
 use Rattle.java_syntax.specs.declared.operator.UnaryOp.TheVariants as unary
 use Rattle.java_syntax.specs.declared.operator.BinaryOp.{BinaryOp}
 use Rattle.java_syntax.specs.declared.operator.BinaryOp.TheVariants as binary
-use Rattle.java_syntax.specs.declared.place.TokenPlace.{TokenPlace}
+use Rattle.token_reading.specs.declared.place.TokenPlace.{TokenPlace}
 use Rattle.java_syntax.specs.declared.expression.Expr.TheOpen.{Expr-F}
 use Rattle.class_table.specs.Names.{Name}
 use Rattle.java_names.specs.declared.scope.Scope.{Scope}

@@ -1,9 +1,9 @@
 -- The types that are spelled in a file.
 use Rattle.std.specs.Prelude.{ℕ, Bool, zero, suc, List, [], ◌∷◌, codes, map, Option, Some, option_map, if◌then◌else◌, is_none}
 use Rattle.std.specs.Option.{option_map_or, unwrap_or}
-use Rattle.java_syntax.specs.declared.name.BaseType.{BaseType}
-use Rattle.java_syntax.specs.declared.name.BaseType.TheVariants.{Int, Boolean, Class}
-use Rattle.java_syntax.specs.declared.name.TypeTree.{TypeTree}
+use Rattle.token_reading.specs.declared.name.BaseType.{BaseType}
+use Rattle.token_reading.specs.declared.name.BaseType.TheVariants.{Int, Boolean, Class}
+use Rattle.token_reading.specs.declared.name.TypeTree.{TypeTree}
 use Rattle.core_tree.specs.declared.ty.Ty.{Ty}
 use Rattle.core_tree.specs.declared.ty.Ty.TheVariants as ty
 use Rattle.class_table.specs.Names.{Name, same_name, number_of}

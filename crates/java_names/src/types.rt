@@ -3,7 +3,7 @@
 ghost use Rattle.std.specs.Prelude.{◌≡◌, [], ◌∷◌, IfOk, IfErr, OnOk, Some};
 ghost use Rattle.class_table.specs.Faults.{Blames, OfRule};
 ghost use Rattle.java_names.specs.Types as spec;
-ghost use Rattle.java_syntax.specs.declared.fault.Fault.{Fault};
+ghost use Rattle.token_reading.specs.declared.fault.Fault.{Fault};
 
 use crate::numbering::Numbering;
 use class_table::Shared;

@@ -7,15 +7,14 @@
 
 ghost use Rattle.std.specs.Prelude.{◌≡◌, ◌≤◌, [], length};
 ghost use Rattle.java_reading.specs.ReadClass as spec;
-ghost use Rattle.java_parse.specs.Reads.{Reads};
+ghost use Rattle.token_reading.specs.Reads.{Reads};
 
 use crate::member::member;
-use crate::refusal::Refusal;
-use crate::tokens::Tokens;
-use java_syntax::{ClassTree, Ident, Member};
+use java_syntax::{ClassTree, Member};
 use java_tokens::{Keyword, Operator, TokenKind};
 use sqlite_items::Items;
 use std::alloc::Global;
+use token_reading::{Ident, Refusal, Tokens};
 
 /// The superclass, or nothing (JLS 8.1.4).
 #[tactic(auto, unfolding(java_reading::specs::ReadClass::extends))]

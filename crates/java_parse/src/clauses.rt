@@ -8,17 +8,17 @@
 ghost use Rattle.std.specs.Prelude.{◌≡◌, ◌≤◌, ◌<◌, [], length};
 ghost use Rattle.java_reading.specs.ReadStmt as spec;
 ghost use Rattle.java_parse.specs.Nests.{NestsStatements};
-ghost use Rattle.java_parse.specs.Reads.{Reads};
+ghost use Rattle.token_reading.specs.Reads.{Reads};
 
-use crate::refusal::Refusal;
+use crate::lookahead::is_local;
 use crate::simple::unended;
 use crate::statement_nodes as nodes;
 use crate::statements::Statements;
-use crate::tokens::Tokens;
 use java_syntax::{CatchTree, Stmt};
 use java_tokens::{Keyword, Operator};
 use sqlite_items::Items;
 use std::alloc::Global;
+use token_reading::{Refusal, Tokens};
 
 impl<F: Fn(Global, &mut Tokens<'_>, u32, bool) -> Result<Stmt, Refusal>> Statements<F> {
     /// Further simple statements, and the token that closes the list.
@@ -63,7 +63,7 @@ impl<F: Fn(Global, &mut Tokens<'_>, u32, bool) -> Result<Stmt, Refusal>> Stateme
         ensures { let n = self.now.parts in
             Reads (spec.start (spec.value n) (spec.arguments n) (spec.unended n) (spec.statement n) tokens.old) result tokens.new }
     {
-        if !tokens.is_local() {
+        if !is_local(tokens) {
             return self.simples(tokens, Operator::Semicolon);
         }
         let tree = unended(self.alloc, tokens, self.parts, true)?;

@@ -4,10 +4,10 @@ ghost use Rattle.std.specs.Prelude.{◌≡◌, ◌≤◌};
 ghost use Rattle.java_syntax.specs.Exprs as grammar;
 ghost use Rattle.java_reading.specs.ReadExpr as spec;
 
-use crate::tokens::Tokens;
 use java_reading::Infix;
 use java_syntax::{BinaryOp, UnaryOp};
 use java_tokens::{Keyword, Operator, TokenKind};
+use token_reading::Tokens;
 
 /// The level of precedence of what the operator makes, from 2 for `||` to 11 for products.
 pub fn binary_level(op: BinaryOp) -> u8

@@ -10,16 +10,15 @@
 ghost use Rattle.std.specs.Prelude.{◌≡◌, ◌≤◌, ◌<◌};
 ghost use Rattle.java_reading.specs.ReadClass as spec;
 ghost use Rattle.java_reading.specs.ReadStmt as spec_statement;
-ghost use Rattle.java_parse.specs.Reads.{Reads};
+ghost use Rattle.token_reading.specs.Reads.{Reads};
 
-use crate::header::{modifiers, params, throws};
-use crate::refusal::Refusal;
+use crate::header::{modifiers, throws};
 use crate::simple::initial;
 use crate::statements::body;
-use crate::tokens::Tokens;
-use java_syntax::{FieldTree, Ident, MakerTree, Member, MethodTree, Mods, TypeTree};
+use java_syntax::{FieldTree, MakerTree, Member, MethodTree, Mods};
 use java_tokens::{Keyword, Operator};
 use std::alloc::Global;
+use token_reading::{Ident, Refusal, Tokens, TypeTree};
 
 /// What stands behind the name of a constructor (JLS 8.8).
 #[tactic(auto, unfolding(java_reading::specs::ReadClass::maker))]
@@ -31,9 +30,9 @@ fn maker(
     name: Ident,
 ) -> Result<MakerTree, Refusal>
     requires { most < 200 }
-    ensures { Reads (spec.maker (spec_statement.value most) (spec_statement.body most) mods name tokens.old) result tokens.new }
+    ensures { Reads (spec.maker most (spec_statement.value most) (spec_statement.body most) mods name tokens.old) result tokens.new }
 {
-    let params = params(alloc, tokens)?;
+    let params = tokens.params(alloc, most)?;
     let throws = throws(alloc, tokens)?;
     tokens.expect(Operator::LeftBrace)?;
     let body = body(alloc, tokens, most)?;
@@ -78,7 +77,7 @@ fn method(
     name: Ident,
 ) -> Result<Member, Refusal>
     requires { most < 200 }
-    ensures { Reads (spec.method (spec_statement.value most) (spec_statement.body most) mods answer name tokens.old) result tokens.new }
+    ensures { Reads (spec.method most (spec_statement.value most) (spec_statement.body most) mods answer name tokens.old) result tokens.new }
 {
     let tree = maker(alloc, tokens, most, mods, name)?;
     Ok(Member::Method(with_answer(answer, tree)))
@@ -95,7 +94,7 @@ fn field(
     name: Ident,
 ) -> Result<Member, Refusal>
     requires { most < 200 }
-    ensures { Reads (spec.field (spec_statement.value most) (spec_statement.body most) mods ty name tokens.old) result tokens.new }
+    ensures { Reads (spec.field most (spec_statement.value most) (spec_statement.body most) mods ty name tokens.old) result tokens.new }
 {
     let value = initial(alloc, tokens, most)?;
     tokens.expect(Operator::Semicolon)?;
@@ -116,7 +115,7 @@ fn void_method(
     mods: Mods,
 ) -> Result<Member, Refusal>
     requires { most < 200 }
-    ensures { Reads (spec.void_method (spec_statement.value most) (spec_statement.body most) mods tokens.old) result tokens.new }
+    ensures { Reads (spec.void_method most (spec_statement.value most) (spec_statement.body most) mods tokens.old) result tokens.new }
 {
     let name = tokens.ident()?;
     method(alloc, tokens, most, mods, None, name)
@@ -131,7 +130,7 @@ fn constructor(
     mods: Mods,
 ) -> Result<Member, Refusal>
     requires { most < 200 }
-    ensures { Reads (spec.constructor (spec_statement.value most) (spec_statement.body most) mods tokens.old) result tokens.new }
+    ensures { Reads (spec.constructor most (spec_statement.value most) (spec_statement.body most) mods tokens.old) result tokens.new }
 {
     let name = tokens.ident()?;
     Ok(Member::Maker(maker(alloc, tokens, most, mods, name)?))
@@ -141,9 +140,9 @@ fn constructor(
 #[tactic(auto, unfolding(java_reading::specs::ReadClass::typed))]
 fn typed(alloc: Global, tokens: &mut Tokens<'_>, most: u32, mods: Mods) -> Result<Member, Refusal>
     requires { most < 200 }
-    ensures { Reads (spec.typed (spec_statement.value most) (spec_statement.body most) mods tokens.old) result tokens.new }
+    ensures { Reads (spec.typed most (spec_statement.value most) (spec_statement.body most) mods tokens.old) result tokens.new }
 {
-    let ty = tokens.type_tree()?;
+    let ty = tokens.type_tree(most)?;
     let name = tokens.ident()?;
     if tokens.sees(Operator::LeftParen) {
         method(alloc, tokens, most, mods, Some(ty), name)
@@ -170,7 +169,7 @@ fn declared(
     mods: Mods,
 ) -> Result<Member, Refusal>
     requires { most < 200 }
-    ensures { Reads (spec.declared (spec_statement.value most) (spec_statement.body most) mods tokens.old) result tokens.new }
+    ensures { Reads (spec.declared most (spec_statement.value most) (spec_statement.body most) mods tokens.old) result tokens.new }
 {
     if tokens.eat_word(Keyword::Void) {
         return void_method(alloc, tokens, most, mods);
@@ -186,7 +185,7 @@ fn declared(
 #[tactic(auto, unfolding(java_reading::specs::ReadClass::member_node))]
 fn member_node(alloc: Global, tokens: &mut Tokens<'_>, most: u32) -> Result<Member, Refusal>
     requires { most < 200 }
-    ensures { Reads (spec.member_node (spec_statement.value most) (spec_statement.body most) tokens.old) result tokens.new }
+    ensures { Reads (spec.member_node most (spec_statement.value most) (spec_statement.body most) tokens.old) result tokens.new }
 {
     if tokens.eat(Operator::Semicolon) {
         return Ok(Member::Empty);

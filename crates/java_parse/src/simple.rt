@@ -10,16 +10,15 @@
 ghost use Rattle.std.specs.Prelude.{◌≡◌, ◌≤◌, ◌<◌, ℕ};
 ghost use Rattle.java_syntax.specs.declared.expression.Expr.{out-Expr};
 ghost use Rattle.java_reading.specs.ReadStmt as spec;
-ghost use Rattle.java_parse.specs.Reads.{Reads};
+ghost use Rattle.token_reading.specs.Reads.{Reads};
 
 use crate::grammar::{Grammar, reading};
-use crate::refusal::Refusal;
 use crate::signs::{assign_at, step_at};
-use crate::tokens::Tokens;
 use java_syntax::{AssignOp, Expr, Fix, LocalTree, StepOp, Stmt};
 use java_tokens::Operator;
 use sqlite_items::Items;
 use std::alloc::Global;
+use token_reading::{Refusal, Tokens};
 
 /// Whether the expression may be assigned to, as far as the grammar goes: no operator but `.` and `[` makes it.
 fn is_post(tree: &Expr) -> bool
@@ -77,9 +76,9 @@ pub fn initial(alloc: Global, tokens: &mut Tokens<'_>, most: u32) -> Result<Opti
 #[tactic(auto, unfolding(java_reading::specs::ReadStmt::local))]
 fn local(alloc: Global, tokens: &mut Tokens<'_>, most: u32) -> Result<LocalTree, Refusal>
     requires { most ≤ 200 }
-    ensures { Reads (spec.local (spec.value most) tokens.old) result tokens.new }
+    ensures { Reads (spec.local most (spec.value most) tokens.old) result tokens.new }
 {
-    let ty = tokens.type_tree()?;
+    let ty = tokens.type_tree(most)?;
     let name = tokens.ident()?;
     let value = initial(alloc, tokens, most)?;
     Ok(LocalTree { ty, name, value })
@@ -89,7 +88,7 @@ fn local(alloc: Global, tokens: &mut Tokens<'_>, most: u32) -> Result<LocalTree,
 #[tactic(auto, unfolding(java_reading::specs::ReadStmt::declaration))]
 pub fn declaration(alloc: Global, tokens: &mut Tokens<'_>, most: u32) -> Result<Stmt, Refusal>
     requires { most ≤ 200 }
-    ensures { Reads (spec.declaration (spec.value most) tokens.old) result tokens.new }
+    ensures { Reads (spec.declaration most (spec.value most) tokens.old) result tokens.new }
 {
     Ok(Stmt::Local(local(alloc, tokens, most)?))
 }

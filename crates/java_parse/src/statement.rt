@@ -9,19 +9,19 @@
 
 ghost use Rattle.std.specs.Prelude.{◌≡◌, ◌≤◌, ◌<◌, [], length};
 ghost use Rattle.java_reading.specs.ReadStmt as spec;
-ghost use Rattle.java_reading.specs.ReadType as spec_type;
+ghost use Rattle.token_reading.specs.ReadType as spec_type;
 ghost use Rattle.java_parse.specs.Nests.{NestsStatements};
-ghost use Rattle.java_parse.specs.Reads.{Reads};
+ghost use Rattle.token_reading.specs.Reads.{Reads};
 
-use crate::refusal::Refusal;
+use crate::lookahead::is_local;
 use crate::simple::{arguments, declaration, simple};
 use crate::statement_nodes as nodes;
 use crate::statements::Statements;
-use crate::tokens::Tokens;
 use java_syntax::{Expr, Stmt};
 use java_tokens::{Keyword, Operator, TokenKind};
 use sqlite_items::Items;
 use std::alloc::Global;
+use token_reading::{Refusal, Tokens};
 
 impl<F: Fn(Global, &mut Tokens<'_>, u32, bool) -> Result<Stmt, Refusal>> Statements<F> {
     /// Statements and the closing brace, behind the opening one (JLS 14.2).
@@ -200,7 +200,7 @@ impl<F: Fn(Global, &mut Tokens<'_>, u32, bool) -> Result<Stmt, Refusal>> Stateme
         requires part { NestsStatements self.now.parts (F.pre self.now.read) (F.post self.now.read) }
         requires low { self.now.parts < 200 }
         ensures { let n = self.now.parts in
-            Reads (spec.local_stmt (spec.value n) (spec.arguments n) (spec.unended n) (spec.statement n) tokens.old) result tokens.new }
+            Reads (spec.local_stmt n (spec.value n) (spec.arguments n) (spec.unended n) (spec.statement n) tokens.old) result tokens.new }
     {
         let tree = declaration(self.alloc, tokens, self.parts)?;
         tokens.expect(Operator::Semicolon)?;
@@ -318,9 +318,9 @@ impl<F: Fn(Global, &mut Tokens<'_>, u32, bool) -> Result<Stmt, Refusal>> Stateme
         requires part { NestsStatements self.now.parts (F.pre self.now.read) (F.post self.now.read) }
         requires low { self.now.parts < 200 }
         ensures { let n = self.now.parts in
-            Reads (spec.stmt (spec.value n) (spec.arguments n) (spec.unended n) (spec.statement n) in_block tokens.old) result tokens.new }
+            Reads (spec.stmt n (spec.value n) (spec.arguments n) (spec.unended n) (spec.statement n) in_block tokens.old) result tokens.new }
     {
-        if !tokens.is_local() {
+        if !is_local(tokens) {
             return self.plain_stmt(tokens);
         }
         if in_block {

@@ -1,13 +1,13 @@
 -- What statements need to know of expressions.
 use Rattle.std.proofs.Common.{◌≡◌, ℕ, ◌≤◌, ◌<◌, List, length, false}
 use Rattle.java_syntax.specs.declared.expression.Expr.{Expr, out-Expr}
-use Rattle.java_syntax.specs.Lexeme.{Lexeme}
+use Rattle.token_reading.specs.Lexeme.{Lexeme}
 use Rattle.java_syntax.specs.Exprs.{level, Within}
 use Rattle.java_syntax.specs.Height.{expr_height}
-use Rattle.java_reading.specs.ReadType.{declares, is_local, is_super_call}
 use Rattle.java_reading.specs.ReadExpr.{follows, reading}
 use Rattle.java_reading.proofs.Begins.{Begins}
 use Rattle.java_reading.proofs.Claims.{Done, Sound}
+use Rattle.java_reading.specs.Lookahead.{declares, is_local, is_super_call}
 
 pub record ExprFacts : Type 0 where
   -- A tree that is written before a token that binds to nothing is found, or it is higher than the budget. A tree of

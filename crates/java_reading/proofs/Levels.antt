@@ -12,10 +12,10 @@ use Rattle.java_syntax.specs.declared.operator.UnaryOp.{UnaryOp}
 use Rattle.java_syntax.specs.declared.operator.UnaryOp.TheVariants as unary
 use Rattle.java_syntax.specs.declared.expression.Expr.{Expr, out-Expr}
 use Rattle.java_syntax.specs.declared.expression.Expr.TheOpen.{Expr-F}
-use Rattle.java_syntax.specs.Lexeme.{Lexeme, same_operator, is_operator, sees}
+use Rattle.token_reading.specs.Lexeme.{Lexeme, same_operator, is_operator, sees}
 use Rattle.java_syntax.specs.Exprs.{Layer, binary_level, unary_level, level, Within}
 use Rattle.java_reading.specs.ReadExpr.{infix_operator, infix_keyword, infix_of, binds, follows}
-use Rattle.java_reading.proofs.Tokens.{from_sees}
+use Rattle.token_reading.proofs.Lexemes.{from_sees}
 
 -- how tightly the token behind a tree may bind at most
 abbrev pub after : Layer → ℕ

@@ -8,8 +8,8 @@ use Rattle.java_tokens.specs.declared.token.TokenKind.{TokenKind}
 use Rattle.java_tokens.specs.declared.token.TokenKind.TheVariants as k
 use Rattle.java_syntax.specs.declared.expression.Expr.{Expr, out-Expr}
 use Rattle.java_syntax.specs.declared.expression.Expr.TheOpen.{Expr-F}
-use Rattle.java_syntax.specs.declared.name.Ident.{Ident}
-use Rattle.java_syntax.specs.declared.name.TypeTree.{TypeTree}
+use Rattle.token_reading.specs.declared.name.Ident.{Ident}
+use Rattle.token_reading.specs.declared.name.TypeTree.{TypeTree}
 use Rattle.java_syntax.specs.declared.operator.AssignOp.{AssignOp}
 use Rattle.java_syntax.specs.declared.operator.AssignOp.TheVariants as assign
 use Rattle.java_syntax.specs.declared.operator.Fix.TheVariants as fix
@@ -19,12 +19,13 @@ use Rattle.java_syntax.specs.declared.statement.CatchTree.{CatchTree, roll-Catch
 use Rattle.java_syntax.specs.declared.statement.LocalTree.{LocalTree}
 use Rattle.java_syntax.specs.declared.statement.Stmt.{Stmt}
 use Rattle.java_syntax.specs.declared.statement.Stmt.TheVariants as s
-use Rattle.java_syntax.specs.Lexeme.{Lexeme, sees, sees_word}
+use Rattle.token_reading.specs.Lexeme.{Lexeme, sees, sees_word}
 use Rattle.java_syntax.specs.Exprs.{Layer}
 use Rattle.java_syntax.specs.Stmts.{handles}
-use Rattle.java_reading.specs.Outcome.{no_tree, too_high, Parser, ◌>>=◌}
-use Rattle.java_reading.specs.ReadType.{next, expect, expect_word, ident, type_tree, is_local}
+use Rattle.token_reading.specs.Outcome.{no_tree, too_high, Parser, ◌>>=◌}
+use Rattle.token_reading.specs.ReadType.{next, expect, expect_word, none_fits, ident, type_tree}
 use Rattle.java_reading.specs.ReadExpr.{args, reading}
+use Rattle.java_reading.specs.Lookahead.{is_local}
 
 -- ---- expressions in statements, without their heights
 
@@ -35,11 +36,6 @@ value n xs = reading n 1 xs >>= (λ t ys. Ok (t.0, ys))
 -- arguments of at most this height and the closing parenthesis
 unfoldable pub arguments : ℕ → Parser (List Expr)
 arguments n xs = args (reading n) xs >>= (λ r ys. Ok (r.0, ys))
-
--- no part has height 0
-unfoldable pub none_fits : {A : Type 0} → Parser A
-none_fits [] = Err no_tree
-none_fits (x ∷ xs) = Err too_high
 
 -- what can stand before a sign of assignment, as far as the grammar goes
 abbrev pub is_post : Layer → Bool
@@ -104,13 +100,6 @@ module _ (value : Parser Expr) where
   unfoldable pub initial : Parser (Option Expr)
   initial xs = if sees o.Assign xs then (value (next xs) >>= (λ e ys. Ok (Some e, ys))) else Ok (None, xs)
 
-  unfoldable pub local : Parser LocalTree
-  local xs =
-      type_tree xs >>= (λ t ys. ident ys >>= (λ x zs. initial zs >>= (λ e us. Ok (local_of t x e, us))))
-
-  unfoldable pub declaration : Parser Stmt
-  declaration xs = local xs >>= (λ t ys. Ok (s.Local t, ys))
-
   -- behind the `++` or `--` before its operand
   unfoldable pub step_before : StepOp → Parser Stmt
   step_before op xs = value xs >>= (λ a ys. if is_post (out-Expr a) then Ok (s.Step op fix.Before a, ys) else Err no_tree)
@@ -142,10 +131,18 @@ module _ (value : Parser Expr) where
   unfoldable pub simple : Parser Stmt
   simple xs = simple_by (step_at xs) xs
 
+-- a declaration whose type has at most this height
+unfoldable pub local : ℕ → Parser Expr → Parser LocalTree
+local n value xs =
+    type_tree n xs >>= (λ t ys. ident ys >>= (λ x zs. initial value zs >>= (λ e us. Ok (local_of t x e, us))))
+
+unfoldable pub declaration : ℕ → Parser Expr → Parser Stmt
+declaration n value xs = local n value xs >>= (λ t ys. Ok (s.Local t, ys))
+
 -- one of the two, of at most this height
 unfoldable pub unended : ℕ → Bool → Parser Stmt
 unended zero declares xs = none_fits xs
-unended (suc n) true xs = declaration (value n) xs
+unended (suc n) true xs = declaration n (value n) xs
 unended (suc n) false xs = simple (value n) xs
 
 -- ---- statements. `header` reads a declaration or a simple statement without its semicolon, and `part` a statement, directly
@@ -248,10 +245,6 @@ module _ (value : Parser Expr) (arguments : Parser (List Expr)) (header part : B
 
   -- ---- any statement
 
-  -- a declaration and its semicolon
-  unfoldable pub local_stmt : Parser Stmt
-  local_stmt xs = declaration value xs >>= (λ t ys. expect o.Semicolon ys >>= (λ _ zs. Ok (t, zs)))
-
   -- a simple statement and its semicolon
   unfoldable pub simple_stmt : Parser Stmt
   simple_stmt xs = simple value xs >>= (λ t ys. expect o.Semicolon ys >>= (λ _ zs. Ok (t, zs)))
@@ -280,13 +273,21 @@ module _ (value : Parser Expr) (arguments : Parser (List Expr)) (header part : B
   plain_stmt [] = Err no_tree
   plain_stmt (x ∷ xs) = stmt_by x.kind x.at (x ∷ xs) xs
 
+-- ---- the same, where a declaration may come first, whose type has the height n at most
+
+module _ (n : ℕ) (value : Parser Expr) (arguments : Parser (List Expr)) (header part : Bool → Parser Stmt) where
+  -- a declaration and its semicolon
+  unfoldable pub local_stmt : Parser Stmt
+  local_stmt xs = declaration n value xs >>= (λ t ys. expect o.Semicolon ys >>= (λ _ zs. Ok (t, zs)))
+
   unfoldable pub stmt : Bool → Parser Stmt
-  stmt in_block xs = if is_local xs then (if in_block then local_stmt xs else Err no_tree) else plain_stmt xs
+  stmt in_block xs =
+      if is_local xs then (if in_block then local_stmt xs else Err no_tree) else plain_stmt value arguments header part xs
 
 -- a statement of at most this height, directly in a block or not
 unfoldable pub statement : ℕ → Bool → Parser Stmt
 statement zero in_block xs = none_fits xs
-statement (suc n) in_block xs = stmt (value n) (arguments n) (unended n) (statement n) in_block xs
+statement (suc n) in_block xs = stmt n (value n) (arguments n) (unended n) (statement n) in_block xs
 
 -- statements of at most this height and the closing brace, behind the opening one
 unfoldable pub body : ℕ → Parser (List Stmt)

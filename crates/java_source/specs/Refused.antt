@@ -7,12 +7,12 @@ use Rattle.java_tokens.specs.declared.error.TokenError.{TokenError}
 use Rattle.java_tokens.specs.declared.error.TokenError.TheVariants as token
 use Rattle.java_tokens.specs.Tokens.{AreTokens}
 use Rattle.java_tokens.specs.Faults.{HasFault}
-use Rattle.java_syntax.specs.declared.fault.Fault.{Fault}
+use Rattle.token_reading.specs.declared.fault.Fault.{Fault}
 use Rattle.java_syntax.specs.declared.class.FileTree.{FileTree}
 use Rattle.java_syntax.specs.Height.{file_height}
 use Rattle.java_syntax.specs.Spells.{Spells}
-use Rattle.java_parse.specs.declared.error.ParseError.{ParseError}
-use Rattle.java_parse.specs.declared.error.ParseError.TheVariants as parse
+use Rattle.token_reading.specs.declared.error.ParseError.{ParseError}
+use Rattle.token_reading.specs.declared.error.ParseError.TheVariants as parse
 use Rattle.java_parse.specs.Answer.{IsOnlyTree, SpellsNothing, SpellsHighOnes}
 use Rattle.java_source.specs.declared.place.Place.{Place}
 use Rattle.java_source.specs.declared.refusal.SourceError.{SourceError}

@@ -3,7 +3,7 @@ use Rattle.std.proofs.Common.{◌≡◌, ◌∙◌, ℕ, List, [], ◌∷◌, �
 use Rattle.std.specs.Prelude.{option_map}
 use Rattle.core_tree.specs.declared.stmt.Stmt.{Stmt as Step}
 use Rattle.core_tree.specs.declared.stmt.Catch.{Catch as Handler}
-use Rattle.java_syntax.specs.declared.fault.CheckError.{CheckError}
+use Rattle.token_reading.specs.declared.fault.CheckError.{CheckError}
 use Rattle.java_syntax.specs.declared.operator.AssignOp.{AssignOp}
 use Rattle.java_syntax.specs.declared.operator.StepOp.{StepOp}
 use Rattle.java_syntax.specs.declared.operator.Fix.{Fix}

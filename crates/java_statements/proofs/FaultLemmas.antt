@@ -1,8 +1,8 @@
 -- Lemmas on lists of faults of statements.
 use Rattle.std.proofs.Common.{ℕ, List, [], ◌∷◌, ◌++◌, inl, inr}
-use Rattle.java_syntax.specs.declared.fault.Fault.{Fault}
-use Rattle.java_syntax.specs.declared.fault.CheckError.{CheckError}
-use Rattle.java_syntax.specs.declared.fault.CheckError.TheVariants as error
+use Rattle.token_reading.specs.declared.fault.Fault.{Fault}
+use Rattle.token_reading.specs.declared.fault.CheckError.{CheckError}
+use Rattle.token_reading.specs.declared.fault.CheckError.TheVariants as error
 use Rattle.java_exprs.specs.Attr.{of_rule}
 use Rattle.java_exprs.specs.Checks.{Has, Refuses}
 use Rattle.java_exprs.proofs.RulesLemmas.{has_right, has_there}

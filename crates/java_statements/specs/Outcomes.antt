@@ -1,7 +1,7 @@
 -- What a check of a statement answers.
 use Rattle.std.specs.Prelude.{◌≡◌, Result, Ok, Err, []}
 use Rattle.core_tree.specs.declared.stmt.Stmt.{Stmt as Step}
-use Rattle.java_syntax.specs.declared.fault.CheckError.{CheckError}
+use Rattle.token_reading.specs.declared.fault.CheckError.{CheckError}
 use Rattle.java_names.specs.declared.scope.Scope.{Scope}
 use Rattle.java_exprs.specs.Checks.{Refuses}
 use Rattle.java_statements.specs.Effects.{Effect}

@@ -14,8 +14,8 @@ use Rattle.core_tree.specs.declared.stmt.Stmt.{Stmt as Step}
 use Rattle.core_tree.specs.declared.stmt.Stmt.TheVariants as step
 use Rattle.core_tree.specs.declared.stmt.Stmt.TheViews as view
 use Rattle.core_tree.specs.Types.{is_int, is_boolean, is_string, is_void, is_object}
-use Rattle.java_syntax.specs.declared.fault.Fault.{Fault}
-use Rattle.java_syntax.specs.declared.name.Ident.{Ident}
+use Rattle.token_reading.specs.declared.fault.Fault.{Fault}
+use Rattle.token_reading.specs.declared.name.Ident.{Ident}
 use Rattle.java_syntax.specs.declared.operator.AssignOp.{AssignOp}
 use Rattle.java_syntax.specs.declared.operator.AssignOp.TheVariants as assign
 use Rattle.java_syntax.specs.declared.operator.StepOp.{StepOp}

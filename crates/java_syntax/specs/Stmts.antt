@@ -1,5 +1,5 @@
 -- Which statements the tokens are (JLS 14).
-use Rattle.std.specs.Prelude.{◌≡◌, ℕ, zero, suc, List, [], ◌∷◌, Bool, true, false, Option, Some, None, ◌⊎◌}
+use Rattle.std.specs.Prelude.{◌≡◌, ℕ, zero, suc, ◌≤◌, List, [], ◌∷◌, Bool, true, false, Option, Some, None, ◌⊎◌}
 use Rattle.java_tokens.specs.declared.token.Keyword.TheVariants as w
 use Rattle.java_tokens.specs.declared.token.Operator.{Operator}
 use Rattle.java_tokens.specs.declared.token.Operator.TheVariants as o
@@ -15,8 +15,9 @@ use Rattle.java_syntax.specs.declared.statement.CatchTree.{CatchTree, out-CatchT
 use Rattle.java_syntax.specs.declared.statement.LocalTree.{LocalTree}
 use Rattle.java_syntax.specs.declared.statement.Stmt.{Stmt, out-Stmt}
 use Rattle.java_syntax.specs.declared.statement.Stmt.TheOpen.{Stmt-F}
-use Rattle.java_syntax.specs.Lexeme.{Lexeme, lexeme, Then, sees_word}
-use Rattle.java_syntax.specs.Types.{IsIdent, IsType}
+use Rattle.token_reading.specs.Lexeme.{Lexeme, lexeme, Then, sees_word}
+use Rattle.token_reading.specs.Types.{IsIdent, IsType}
+use Rattle.token_reading.specs.Height.{type_height}
 use Rattle.java_syntax.specs.Exprs.{Args, Within}
 
 -- one level of a statement
@@ -94,10 +95,15 @@ module _ (Part : Expr → ℕ → List Lexeme → List Lexeme → Type 0) where
   Unended (Stmt-F.Eval e) xs rest = Part e 1 xs rest
   Unended _ xs rest = ⊥
 
+-- the height of the type in a statement, and 0 of none
+abbrev pub local_type_height : StmtLayer → ℕ
+local_type_height (Stmt-F.Local t) = type_height t.ty
+local_type_height _ = 0
+
 -- such a statement, of at most this height
 unfoldable pub UnendedWithin : ℕ → Stmt → List Lexeme → List Lexeme → Type 0
 UnendedWithin zero s xs rest = ⊥
-UnendedWithin (suc n) s xs rest = Unended (Within n) (out-Stmt s) xs rest
+UnendedWithin (suc n) s xs rest = Unended (Within n) (out-Stmt s) xs rest × (local_type_height (out-Stmt s) ≤ n)
 
 -- ---- the header of a `for` (JLS 14.14.1). `Header s xs rest` says that the declaration or simple statement s is written
 -- without its semicolon.
@@ -209,3 +215,4 @@ unfoldable pub StmtWithin : ℕ → Bool → Stmt → List Lexeme → List Lexem
 StmtWithin zero in_block s xs rest = ⊥
 StmtWithin (suc n) in_block s xs rest =
     MayStand in_block (out-Stmt s) × StmtNode (Within n) (UnendedWithin n) (StmtWithin n) (out-Stmt s) xs rest
+    × (local_type_height (out-Stmt s) ≤ n)

@@ -1,7 +1,7 @@
-use crate::name::{BaseType, Ident, TypeTree};
 use crate::operator::{BinaryOp, UnaryOp};
 use java_tokens::Name;
 use sqlite_items::{Boxed, Items};
+use token_reading::{BaseType, Ident, TypeTree};
 
 /// An expression (JLS 15). A number in front is that of the first token, where no part begins with it.
 #[derive(Drop)]

@@ -1,8 +1,8 @@
 -- A fault of one class is a fault of the file.
 use Rattle.std.proofs.Common.{◌≡◌, ◌∙◌, sym, ap, subst, ℕ, suc, ◌+◌, ◌<◌, List, ◌∷◌, drop, flat_map, length, get_or}
 use Rattle.std.proofs.lemmas.List.{at_drop_more}
-use Rattle.java_syntax.specs.declared.fault.Fault.{Fault}
-use Rattle.java_syntax.specs.declared.fault.CheckError.{CheckError}
+use Rattle.token_reading.specs.declared.fault.Fault.{Fault}
+use Rattle.token_reading.specs.declared.fault.CheckError.{CheckError}
 use Rattle.java_syntax.specs.declared.class.Member.{Member}
 use Rattle.java_syntax.specs.declared.class.ClassTree.{ClassTree}
 use Rattle.java_exprs.specs.Checks.{Refuses}

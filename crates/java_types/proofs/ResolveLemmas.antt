@@ -1,9 +1,9 @@
 -- A file: declarations, then constants, then bodies.
 use Rattle.std.proofs.Common.{◌≡◌, ◌∙◌, refl, sym, ap, subst, ℕ, suc, List, [], ◌∷◌, ◌++◌, flat_map, Option, Result, Ok, Err}
 use Rattle.std.specs.Prelude.{IfErr}
-use Rattle.java_syntax.specs.declared.fault.Fault.{Fault}
-use Rattle.java_syntax.specs.declared.fault.CheckError.{CheckError}
-use Rattle.java_syntax.specs.declared.class.ParamTree.{ParamTree}
+use Rattle.token_reading.specs.declared.fault.Fault.{Fault}
+use Rattle.token_reading.specs.declared.fault.CheckError.{CheckError}
+use Rattle.token_reading.specs.declared.name.ParamTree.{ParamTree}
 use Rattle.java_syntax.specs.declared.class.Member.{Member}
 use Rattle.java_syntax.specs.declared.class.Member.TheVariants as member
 use Rattle.java_syntax.specs.declared.class.ClassTree.{ClassTree}

@@ -4,7 +4,7 @@ use denote.Hole.Carrier.{out, shown, hidden}
 use Rattle.core_tree.specs.declared.ty.Ty.{out-Ty}
 use Rattle.core_tree.specs.declared.ty.Ty.TheVariants as ty
 use Rattle.core_tree.specs.declared.ty.Ty.TheBlock.{shown-the_row-Ty-0}
-use Rattle.java_syntax.specs.declared.name.TypeTree.{TypeTree}
+use Rattle.token_reading.specs.declared.name.TypeTree.{TypeTree}
 use Rattle.java_syntax.specs.declared.class.Modifier.TheVariants as word
 use Rattle.java_syntax.specs.declared.class.FieldTree.{FieldTree}
 use Rattle.java_names.specs.Scope.{declared}

@@ -1,6 +1,6 @@
 -- What the parts of the check answer.
 use Rattle.std.specs.Prelude.{ℕ, Bool, true, false, List, [], ◌++◌}
-use Rattle.java_syntax.specs.declared.fault.Fault.{Fault}
+use Rattle.token_reading.specs.declared.fault.Fault.{Fault}
 use Rattle.java_syntax.specs.declared.class.Member.{Member}
 use Rattle.java_syntax.specs.declared.class.Member.TheVariants as member
 use Rattle.java_exprs.specs.declared.environment.Environment.{Environment}

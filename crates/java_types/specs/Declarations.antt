@@ -6,12 +6,12 @@ use Rattle.std.specs.Option.{option_map_or}
 use Rattle.core_tree.specs.declared.ty.Ty.{Ty}
 use Rattle.core_tree.specs.declared.ty.Ty.TheVariants as ty
 use Rattle.core_tree.specs.Types.{is_int, is_boolean, is_string}
-use Rattle.java_syntax.specs.declared.fault.Fault.{Fault}
-use Rattle.java_syntax.specs.declared.name.TypeTree.{TypeTree}
+use Rattle.token_reading.specs.declared.fault.Fault.{Fault}
+use Rattle.token_reading.specs.declared.name.TypeTree.{TypeTree}
 use Rattle.java_syntax.specs.declared.class.Modifier.{Modifier}
 use Rattle.java_syntax.specs.declared.class.Modifier.TheVariants as word
 use Rattle.java_syntax.specs.declared.class.Mods.{Mods}
-use Rattle.java_syntax.specs.declared.class.ParamTree.{ParamTree}
+use Rattle.token_reading.specs.declared.name.ParamTree.{ParamTree}
 use Rattle.java_syntax.specs.declared.class.FieldTree.{FieldTree}
 use Rattle.java_syntax.specs.declared.class.MethodTree.{MethodTree}
 use Rattle.java_syntax.specs.declared.class.Member.{Member}

@@ -8,7 +8,7 @@ use Rattle.java_tokens.specs.declared.error.TokenError.TheVariants as token
 use Rattle.java_tokens.specs.Tokens.{AreTokens}
 use Rattle.java_tokens.specs.Faults.{HasFault}
 use Rattle.java_tokens.proofs.OneReading.{one_list, one_fault, no_list_with_fault}
-use Rattle.java_syntax.specs.declared.fault.Fault.{Fault}
+use Rattle.token_reading.specs.declared.fault.Fault.{Fault}
 use Rattle.java_syntax.specs.declared.class.FileTree.{FileTree}
 use Rattle.java_syntax.specs.Spells.{Spells}
 use Rattle.java_exprs.specs.Checks.{Has}

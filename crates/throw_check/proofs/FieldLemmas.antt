@@ -1,6 +1,6 @@
 -- What breaks rule 23 in the initialiser of a field, which is reported at the field's name.
 use Rattle.std.proofs.Common.{◌≡◌, ◌∙◌, ℕ, List, [], ◌∷◌, refl, sym, ap, inl}
-use Rattle.java_syntax.specs.declared.fault.Fault.{Fault}
+use Rattle.token_reading.specs.declared.fault.Fault.{Fault}
 use Rattle.java_exprs.specs.declared.environment.Environment.{Environment}
 use Rattle.java_exprs.specs.Checks.{Has}
 use Rattle.throw_check.specs.declared.handlers.Handlers.{Handlers}

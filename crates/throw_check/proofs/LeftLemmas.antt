@@ -3,7 +3,7 @@ use Rattle.std.proofs.Common.{◌≡◌, ℕ, Bool, true, false, not, ◌||◌, 
 use Rattle.std.specs.List.{list_any}
 use Rattle.std.specs.Prelude.{Result}
 use Rattle.java_names.specs.declared.symbol.Symbols.{Symbols}
-use Rattle.java_syntax.specs.declared.fault.CheckError.{CheckError}
+use Rattle.token_reading.specs.declared.fault.CheckError.{CheckError}
 use Rattle.java_exprs.specs.Checks.{Has, Refuses}
 use Rattle.java_exprs.proofs.RulesLemmas.{refuses_left, refuses_right}
 use Rattle.throw_check.specs.declared.handlers.Handlers.{Handlers}

@@ -4,9 +4,9 @@ use denote.Hole.Carrier.{out, shown, hidden}
 use Rattle.core_tree.specs.declared.ty.Ty.{out-Ty}
 use Rattle.core_tree.specs.declared.ty.Ty.TheVariants as ty
 use Rattle.core_tree.specs.declared.ty.Ty.TheBlock.{shown-the_row-Ty-0}
-use Rattle.java_syntax.specs.declared.fault.Fault.{Fault}
-use Rattle.java_syntax.specs.declared.name.Ident.{Ident}
-use Rattle.java_syntax.specs.declared.name.BaseType.TheVariants.{Int}
+use Rattle.token_reading.specs.declared.fault.Fault.{Fault}
+use Rattle.token_reading.specs.declared.name.Ident.{Ident}
+use Rattle.token_reading.specs.declared.name.BaseType.TheVariants.{Int}
 use Rattle.java_syntax.specs.declared.expression.Expr.{Expr}
 use Rattle.java_syntax.specs.declared.expression.Expr.TheVariants as tree
 use Rattle.java_syntax.specs.declared.statement.CatchTree.{CatchTree, roll-CatchTree}

@@ -12,7 +12,7 @@ use Rattle.java_syntax.specs.declared.statement.Stmt.{Stmt}
 use Rattle.java_syntax.specs.declared.statement.Stmt.TheVariants as tree
 use Rattle.java_syntax.specs.declared.statement.Stmt.TheOpen.{Stmt-F}
 use Rattle.java_syntax.specs.declared.statement.Stmt.TheFolds.{para-Stmt, para-roll-Stmt, para-CatchTree, para-roll-CatchTree}
-use Rattle.java_syntax.specs.declared.class.ParamTree.{ParamTree}
+use Rattle.token_reading.specs.declared.name.ParamTree.{ParamTree}
 use Rattle.java_names.specs.Types.{declared_type}
 use Rattle.java_names.specs.declared.scope.Scope.{Scope}
 use Rattle.throw_check.specs.Files.{with_params}

@@ -2,9 +2,9 @@
 use Rattle.std.proofs.Common.{◌≡◌, ℕ, List, [], ◌∷◌, Option, Some, None, refl}
 use Rattle.std.specs.Prelude.{is_none, if◌then◌else◌}
 use Rattle.core_tree.specs.declared.ty.Ty.{Ty}
-use Rattle.java_syntax.specs.declared.fault.Fault.{Fault}
-use Rattle.java_syntax.specs.declared.name.BaseType.{BaseType}
-use Rattle.java_syntax.specs.declared.name.BaseType.TheVariants as base
+use Rattle.token_reading.specs.declared.fault.Fault.{Fault}
+use Rattle.token_reading.specs.declared.name.BaseType.{BaseType}
+use Rattle.token_reading.specs.declared.name.BaseType.TheVariants as base
 use Rattle.class_table.specs.Faults.{OfRule}
 use Rattle.java_names.specs.Types.{base_type, named_type, unknown_base}
 

@@ -2,14 +2,14 @@
 use Rattle.std.specs.Prelude.{ℕ, ◌+◌, not, ◌&&◌, List, [], ◌∷◌, ◌++◌, map, filter, flat_map, length, if◌then◌else◌}
 use Rattle.std.specs.List.{filter_map}
 use Rattle.std.specs.Option.{option_map_or}
-use Rattle.java_syntax.specs.declared.fault.Fault.{Fault}
-use Rattle.java_syntax.specs.declared.name.Ident.{Ident}
+use Rattle.token_reading.specs.declared.fault.Fault.{Fault}
+use Rattle.token_reading.specs.declared.name.Ident.{Ident}
 use Rattle.java_syntax.specs.declared.class.FieldTree.{FieldTree}
 use Rattle.java_syntax.specs.declared.class.MethodTree.{MethodTree}
 use Rattle.java_syntax.specs.declared.class.MakerTree.{MakerTree}
 use Rattle.java_syntax.specs.declared.class.Member.{Member}
 use Rattle.java_syntax.specs.declared.class.Member.TheVariants as member
-use Rattle.java_syntax.specs.declared.class.ParamTree.{ParamTree}
+use Rattle.token_reading.specs.declared.name.ParamTree.{ParamTree}
 use Rattle.java_syntax.specs.declared.class.ClassTree.{ClassTree}
 use Rattle.java_syntax.specs.declared.class.FileTree.{FileTree}
 use Rattle.class_table.specs.declared.row.ClassTable.{ClassTable}

@@ -3,7 +3,7 @@ use Rattle.std.specs.Prelude.{ℕ, ◌-◌, not, List, [], ◌∷◌, ◌++◌, 
 use Rattle.std.specs.List.{filter_map}
 use Rattle.std.specs.Option.{option_map_or}
 use Rattle.core_tree.specs.declared.ty.Ty.{Ty}
-use Rattle.java_syntax.specs.declared.name.Ident.{Ident}
+use Rattle.token_reading.specs.declared.name.Ident.{Ident}
 use Rattle.java_syntax.specs.declared.expression.Expr.{Expr}
 use Rattle.java_syntax.specs.declared.statement.CatchTree.{CatchTree, CatchTree-F}
 use Rattle.java_syntax.specs.declared.statement.Stmt.{Stmt, out-Stmt}

@@ -5,7 +5,7 @@ use Rattle.java_syntax.specs.declared.class.ClassTree.{ClassTree}
 use Rattle.java_syntax.specs.declared.class.FileTree.{FileTree}
 use Rattle.java_syntax.specs.declared.class.Member.{Member}
 use Rattle.java_syntax.specs.declared.class.Member.TheVariants as member
-use Rattle.java_syntax.specs.Lexeme.{Lexeme, numbered}
+use Rattle.token_reading.specs.Lexeme.{Lexeme, numbered}
 use Rattle.java_syntax.specs.Exprs.{Within}
 use Rattle.java_syntax.specs.Classes.{MemberWithin, Members, ClassWithin}
 use Rattle.java_syntax.specs.Spells.{ClassesWithin, Spells}

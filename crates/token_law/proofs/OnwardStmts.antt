@@ -10,7 +10,7 @@ use Rattle.java_syntax.specs.declared.operator.StepOp.{StepOp}
 use Rattle.java_syntax.specs.declared.statement.CatchTree.{CatchTree, out-CatchTree}
 use Rattle.java_syntax.specs.declared.statement.Stmt.{Stmt, out-Stmt}
 use Rattle.java_syntax.specs.declared.statement.Stmt.TheOpen.{Stmt-F}
-use Rattle.java_syntax.specs.Lexeme.{Lexeme}
+use Rattle.token_reading.specs.Lexeme.{Lexeme}
 use Rattle.java_syntax.specs.Exprs.{Within}
 use Rattle.java_syntax.specs.Stmts.{StmtLayer, Initial, Steps, Unended, UnendedWithin, MoreSimples, Simples, Declares, Start, Stmts, Condition, Ended, Otherwise, Catch, Catches, Finally, StmtNode, StmtWithin}
 use Rattle.token_law.proofs.Onward.{Onward, ◌>>◌, stay, token, then_onward, type_onward}

@@ -12,7 +12,7 @@ use Rattle.core_tree.specs.declared.program.Program.{Program}
 use Rattle.core_tree.specs.Types.{class_of, elements_of, is_string, is_object}
 use Rattle.core_tree.specs.Typing.{Scope as CoreScope, has as has_part, fits, is_text_or_null, type_of}
 use Rattle.core_tree.proofs.ExprNodes.{type_of-Length, type_of-TextLength, type_of-TextEquals}
-use Rattle.java_syntax.specs.declared.name.Ident.{Ident}
+use Rattle.token_reading.specs.declared.name.Ident.{Ident}
 use Rattle.java_syntax.specs.declared.expression.Expr.TheOpen.{Expr-F}
 use Rattle.class_table.specs.Names.{same_name}
 use Rattle.java_names.specs.declared.scope.Scope.{Scope}

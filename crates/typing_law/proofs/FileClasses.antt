@@ -5,14 +5,14 @@ use Rattle.std.proofs.lemmas.Option.{none-some, same_Some}
 use Rattle.std.proofs.lemmas.Bool.{and_from, or_left, or_right}
 use Rattle.core_tree.specs.declared.ty.Ty.TheVariants as ty
 use Rattle.core_tree.specs.Types.{is_void}
-use Rattle.java_syntax.specs.declared.name.TypeTree.{TypeTree}
+use Rattle.token_reading.specs.declared.name.TypeTree.{TypeTree}
 use Rattle.typing_law.proofs.TypeFacts as facts
 use Rattle.core_tree.specs.declared.program.Program.{Program}
 use Rattle.core_tree.specs.WellTyped.{is_value}
 use Rattle.java_syntax.specs.declared.class.Member.{Member}
 use Rattle.java_syntax.specs.declared.class.Member.TheVariants as member
 use Rattle.java_syntax.specs.declared.class.ClassTree.{ClassTree}
-use Rattle.java_syntax.specs.declared.class.ParamTree.{ParamTree}
+use Rattle.token_reading.specs.declared.name.ParamTree.{ParamTree}
 use Rattle.class_table.specs.declared.row.ClassRow.{ClassRow}
 use Rattle.class_table.specs.declared.row.MakerRow.{MakerRow}
 use Rattle.class_table.specs.declared.row.MethodRow.{MethodRow}

@@ -14,7 +14,7 @@ use Rattle.java_syntax.specs.declared.class.FieldTree.{FieldTree}
 use Rattle.java_syntax.specs.declared.class.FileTree.{FileTree}
 use Rattle.java_syntax.specs.declared.class.Member.{Member}
 use Rattle.java_syntax.specs.declared.class.Member.TheVariants as member
-use Rattle.java_syntax.specs.declared.name.TypeTree.{TypeTree}
+use Rattle.token_reading.specs.declared.name.TypeTree.{TypeTree}
 use Rattle.class_table.specs.declared.row.ClassRow.{ClassRow}
 use Rattle.class_table.specs.declared.row.ClassTable.{ClassTable}
 use Rattle.class_table.specs.declared.row.FieldRow.{FieldRow}

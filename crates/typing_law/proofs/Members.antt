@@ -19,10 +19,10 @@ use Rattle.core_tree.specs.Types.{is_void}
 use Rattle.core_tree.specs.Typing.{Scope as CoreScope, fits, all_fit, all_of, type_of, is_typed_stmt, is_typed_body}
 use Rattle.core_tree.specs.WellTyped.{is_value, is_of_file, superclass, is_numbered, is_method, is_maker, is_parent, numbers_from, declared_numbers, all_declared, initialiser_scope}
 use Rattle.core_tree.specs.WellTyped as typed
-use Rattle.java_syntax.specs.declared.name.TypeTree.{TypeTree}
+use Rattle.token_reading.specs.declared.name.TypeTree.{TypeTree}
 use Rattle.java_syntax.specs.declared.expression.Expr.{Expr}
 use Rattle.java_syntax.specs.declared.statement.Stmt.{Stmt}
-use Rattle.java_syntax.specs.declared.class.ParamTree.{ParamTree}
+use Rattle.token_reading.specs.declared.name.ParamTree.{ParamTree}
 use Rattle.java_syntax.specs.declared.class.FieldTree.{FieldTree}
 use Rattle.java_syntax.specs.declared.class.MethodTree.{MethodTree}
 use Rattle.java_syntax.specs.declared.class.MakerTree.{MakerTree}

@@ -17,7 +17,7 @@ use Rattle.core_tree.specs.Types.{class_of, is_int, is_void}
 use Rattle.core_tree.specs.Typing.{Scope as CoreScope, all_fit, call_type, chosen_type, field_type, is_int_number, is_of_superclass, is_throwable, type_of, where_true}
 use Rattle.core_tree.specs.WellTyped.{is_value}
 use Rattle.core_tree.proofs.ExprNodes.{type_of-Int, type_of-Bool, type_of-Text, type_of-Null, type_of-This, type_of-Field, type_of-Static, type_of-Chosen, type_of-Super, type_of-Message}
-use Rattle.java_syntax.specs.declared.name.Ident.{Ident}
+use Rattle.token_reading.specs.declared.name.Ident.{Ident}
 use Rattle.java_names.specs.declared.scope.Scope.{Scope}
 use Rattle.java_names.specs.declared.symbol.FieldSymbol.{FieldSymbol}
 use Rattle.java_names.specs.declared.symbol.MethodSymbol.{MethodSymbol}

@@ -20,9 +20,9 @@ use Rattle.core_tree.specs.WellTyped.{is_value}
 use Rattle.core_tree.specs.BuiltIn.{is_built_in}
 use Rattle.core_tree.proofs.TypeNodes.{is_value_type-Array}
 use Rattle.core_tree.proofs.ExprNodes.{type_of-Int, type_of-Bool, type_of-Text, type_of-Null, type_of-Local, type_of-Element, type_of-New, type_of-NewBuilt, type_of-NewArray, type_of-Cast, type_of-Is}
-use Rattle.java_syntax.specs.declared.name.Ident.{Ident}
-use Rattle.java_syntax.specs.declared.name.TypeTree.{TypeTree}
-use Rattle.java_syntax.specs.declared.name.BaseType.{BaseType}
+use Rattle.token_reading.specs.declared.name.Ident.{Ident}
+use Rattle.token_reading.specs.declared.name.TypeTree.{TypeTree}
+use Rattle.token_reading.specs.declared.name.BaseType.{BaseType}
 use Rattle.java_syntax.specs.declared.expression.Expr.TheOpen.{Expr-F}
 use Rattle.class_table.specs.Names.{same_name}
 use Rattle.java_names.specs.declared.scope.Scope.{Scope}

@@ -10,7 +10,7 @@ use Rattle.core_tree.specs.declared.program.Class.{Class}
 use Rattle.core_tree.specs.BuiltIn.{is_built_in}
 use Rattle.core_tree.specs.Types.{line_of}
 use Rattle.core_tree.specs.WellTyped.{each_numbered}
-use Rattle.java_syntax.specs.declared.name.Ident.{Ident}
+use Rattle.token_reading.specs.declared.name.Ident.{Ident}
 use Rattle.java_syntax.specs.declared.class.ClassTree.{ClassTree}
 use Rattle.java_syntax.specs.declared.class.FileTree.{FileTree}
 use Rattle.class_table.specs.declared.declaration.Declaration.{Declaration}

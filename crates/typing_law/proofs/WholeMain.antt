@@ -15,9 +15,9 @@ use Rattle.core_tree.specs.declared.program.Method.{Method}
 use Rattle.core_tree.specs.Types.{is_same_type}
 use Rattle.core_tree.specs.WellTyped.{same_types}
 use Rattle.core_tree.specs.WellTyped as typed
-use Rattle.java_syntax.specs.declared.name.BaseType.{BaseType}
-use Rattle.java_syntax.specs.declared.name.BaseType.TheVariants as base
-use Rattle.java_syntax.specs.declared.name.TypeTree.{TypeTree}
+use Rattle.token_reading.specs.declared.name.BaseType.{BaseType}
+use Rattle.token_reading.specs.declared.name.BaseType.TheVariants as base
+use Rattle.token_reading.specs.declared.name.TypeTree.{TypeTree}
 use Rattle.java_syntax.specs.declared.class.Member.{Member}
 use Rattle.java_syntax.specs.declared.class.Member.TheVariants as member
 use Rattle.java_syntax.specs.declared.class.MethodTree.{MethodTree}

@@ -7,7 +7,7 @@ use Rattle.core_tree.specs.declared.program.Program.{Program}
 use Rattle.core_tree.specs.Types.{line_of}
 use Rattle.core_tree.specs.Typing.{is_throwable, chosen_method}
 use Rattle.core_tree.specs.WellTyped.{IsWellTyped, is_class, is_field, is_chosen, chosen_above, is_message_method, overrides}
-use Rattle.java_syntax.specs.declared.fault.Fault.{Fault}
+use Rattle.token_reading.specs.declared.fault.Fault.{Fault}
 use Rattle.java_syntax.specs.declared.class.FileTree.{FileTree}
 use Rattle.class_table.specs.declared.row.ClassRow.{ClassRow}
 use Rattle.class_table.specs.declared.row.ClassTable.{ClassTable}

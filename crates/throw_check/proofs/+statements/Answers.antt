@@ -1,7 +1,7 @@
 use Rattle.std.proofs.Common.{◌≡◌, ◌∙◌, ◌+◌, List, [], ◌∷◌, ◌++◌, ap, arith, drop, map, rules, sym}
 use Rattle.std.specs.Prelude.{option_map}
 use Rattle.std.proofs.lemmas.Grind.{common_steps}
-use Rattle.java_syntax.specs.declared.fault.Fault.{Fault}
+use Rattle.token_reading.specs.declared.fault.Fault.{Fault}
 use Rattle.java_syntax.specs.declared.statement.CatchTree.{CatchTree}
 use Rattle.java_syntax.specs.declared.statement.Stmt.{Stmt}
 use Rattle.java_names.specs.declared.scope.Scope.{Scope}

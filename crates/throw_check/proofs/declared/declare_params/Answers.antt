@@ -1,6 +1,6 @@
 use Rattle.std.proofs.Common.{◌≡◌, ◌∙◌, ◌+◌, List, [], ◌∷◌, ap, arith, drop, sym}
 use Rattle.std.proofs.lemmas.Grind.{common_steps}
-use Rattle.java_syntax.specs.declared.class.ParamTree.{ParamTree}
+use Rattle.token_reading.specs.declared.name.ParamTree.{ParamTree}
 use Rattle.core_tree.specs.declared.ty.Ty.{Ty}
 use Rattle.throw_check.specs.Files.{with_params}
 use Rattle.throw_check.specs.Statements.{with_local}

@@ -1,7 +1,7 @@
 use Rattle.std.proofs.Common.{◌≡◌, ◌∙◌, ◌+◌, List, [], ◌∷◌, ◌++◌, ap, arith, drop, flat_map, rules}
 use Rattle.std.proofs.lemmas.Grind.{common_steps}
 use Rattle.java_syntax.specs.declared.class.Member.{Member}
-use Rattle.java_syntax.specs.declared.fault.Fault.{Fault}
+use Rattle.token_reading.specs.declared.fault.Fault.{Fault}
 use Rattle.java_exprs.specs.Checks.{Refuses}
 use Rattle.java_exprs.proofs.RulesLemmas.{refuses_left}
 use Rattle.throw_check.specs.Files.{member_faults}

@@ -12,7 +12,7 @@ use Rattle.java_names.specs.declared.scope.Scope.{Scope}
 use Rattle.java_names.specs.Types as types
 use Rattle.java_names.specs.Lookups as names
 use Rattle.java_names.specs.Scope.{local_of}
-use Rattle.java_exprs.specs.declared.literal.Literal.{Literal}
+use Rattle.primitive_operators.specs.declared.scalar.Scalar.{Scalar}
 use Rattle.java_exprs.specs.declared.environment.Environment.{Environment}
 use Rattle.java_exprs.specs.declared.typed.Denotation.{Denotation}
 use Rattle.java_exprs.specs.declared.typed.Denotation.TheVariants as denotes
@@ -69,5 +69,5 @@ abbrev pub local_denotes : Scope → ℕ → Option Denotation
 local_denotes s n = option_and_then variable_denotes (slice_get s.slots n)
 
 -- the value of the constant whose name is this token
-abbrev pub constant_at : Environment → ℕ → Option Literal
+abbrev pub constant_at : Environment → ℕ → Option Scalar
 constant_at env at = option_and_then (λ c. c.1) (find (λ c. c.0 == at) env.constants)

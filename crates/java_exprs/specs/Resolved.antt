@@ -23,8 +23,8 @@ use Rattle.class_table.specs.Names.{Name}
 use Rattle.java_names.specs.declared.scope.Scope.{Scope}
 use Rattle.java_names.specs.declared.symbol.MethodSymbol.{MethodSymbol}
 use Rattle.java_exprs.specs.declared.environment.Environment.{Environment}
-use Rattle.java_exprs.specs.declared.literal.Literal.{Literal}
-use Rattle.java_exprs.specs.declared.literal.Literal.TheVariants as literal
+use Rattle.primitive_operators.specs.declared.scalar.Scalar.{Scalar}
+use Rattle.primitive_operators.specs.declared.scalar.Scalar.TheVariants as scalar
 use Rattle.java_exprs.specs.declared.typed.Denotation.{Denotation}
 use Rattle.java_exprs.specs.declared.typed.Denotation.TheVariants as denotes
 use Rattle.java_exprs.specs.declared.through.Through.TheVariants as through
@@ -45,11 +45,11 @@ abbrev pub site_at : List TokenPlace → ℕ → Site
 site_at places at = option_map_or (λ p. record { line = p.line; column = p.column }) (slice_get places at) (record { line = 1; column = 1 })
 
 -- the value of a constant
-abbrev pub literal_core : Literal → Core
-literal_core (literal.Int n) = core.Int n
-literal_core (literal.Bool b) = core.Bool b
-literal_core (literal.Text t) = core.Text t
-literal_core literal.Null = core.Null
+abbrev pub literal_core : Scalar → Core
+literal_core (scalar.Int n) = core.Int n
+literal_core (scalar.Bool b) = core.Bool b
+literal_core (scalar.Text t) = core.Text t
+literal_core scalar.Null = core.Null
 
 -- a field is read from its object; a constant is its value
 abbrev pub member_core : Environment → Naming → Core

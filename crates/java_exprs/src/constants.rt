@@ -1,4 +1,4 @@
-use crate::literal::Literal;
+use primitive_operators::Scalar;
 use indexmap::IndexMap;
 use std::alloc::{AllocError, Global};
 use std::marker::Model;
@@ -7,14 +7,14 @@ use std::marker::Model;
 /// Contracts see a list of pairs.
 #[derive(Drop)]
 pub struct Constants {
-    values: IndexMap<u32, Option<Literal>>,
+    values: IndexMap<u32, Option<Scalar>>,
 }
 
 impl Model for Constants {
     ghost use Rattle.std.specs.Prelude.{List, ℕ, Option};
-    ghost use Rattle.java_exprs.specs.declared.literal.Literal.{Literal};
+    ghost use Rattle.primitive_operators.specs.declared.scalar.Scalar.{Scalar};
 
-    ghost Value = { List (ℕ × Option Literal) };
+    ghost Value = { List (ℕ × Option Scalar) };
 
     ghost view = { λ constants. constants.values.entries };
 }
@@ -35,7 +35,7 @@ impl Constants {
     /// Adds the constant whose name is token number `at`. `AllocError` where there is no memory left, or where a constant with
     /// that token was read already, which no file has.
     #[tactic(auto, using(crate::proofs::ConstantLemmas::new_constant))]
-    pub fn push(&mut self, at: u32, value: Option<Literal>) -> Result<(), AllocError>
+    pub fn push(&mut self, at: u32, value: Option<Scalar>) -> Result<(), AllocError>
         ensures { OnOk result (self.new ≡ self.old ++ (at, value) ∷ []) }
     {
         if self.values.contains_key(&at) {
@@ -47,7 +47,7 @@ impl Constants {
 
     /// The constant whose name is this token, with its value; `None` where no such constant was read. It takes no memory.
     #[tactic(auto, using(crate::proofs::ConstantLemmas::lookups))]
-    pub fn get(&self, at: u32) -> Option<&Option<Literal>>
+    pub fn get(&self, at: u32) -> Option<&Option<Scalar>>
         ensures { option_copied result ≡ option_map (λ c. c.1) (find (λ c. c.0 == at) self.now) }
     {
         self.values.get(&at)

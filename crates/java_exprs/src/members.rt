@@ -15,7 +15,7 @@ ghost use Rattle.java_exprs.specs.Rules as rule;
 use crate::environment::Environment;
 use crate::fault::fault;
 use crate::forms::is_void;
-use crate::literal::Literal;
+use primitive_operators::Scalar;
 use crate::receiver::Receiver;
 use crate::through::Through;
 use crate::typed::{Denotation, Form, Typed};
@@ -106,18 +106,18 @@ fn form_of(x: &Ident, field: &FieldSymbol) -> Form
 }
 
 // The value of a constant.
-fn literal_core(literal: &Literal) -> Result<Expr, CheckError>
+fn literal_core(literal: &Scalar) -> Result<Expr, CheckError>
     ensures value { IfOk result (λ value. value ≡ resolved.literal_core literal.now) }
     ensures memory { IfErr result (λ e. e ≡ CheckError.OutOfMemory) }
 {
     match literal {
-        Literal::Int(n) => Ok(Expr::Int(*n)),
-        Literal::Bool(b) => Ok(Expr::Bool(*b)),
-        Literal::Text(text) => match text.share() {
+        Scalar::Int(n) => Ok(Expr::Int(*n)),
+        Scalar::Bool(b) => Ok(Expr::Bool(*b)),
+        Scalar::Text(text) => match text.share() {
             Ok(text) => Ok(Expr::Text(text)),
             Err(_) => Err(CheckError::OutOfMemory),
         },
-        Literal::Null => Ok(Expr::Null),
+        Scalar::Null => Ok(Expr::Null),
     }
 }
 

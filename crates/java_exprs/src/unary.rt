@@ -20,8 +20,8 @@ use java_syntax::{CheckError, UnaryOp};
 use sqlite_items::Boxed;
 use std::alloc::Global;
 
-// The resolved operator.
-fn un_op(op: UnaryOp) -> UnOp
+/// The resolved operator.
+pub fn un_op(op: UnaryOp) -> UnOp
     ensures { result ≡ resolved.un_op op }
 {
     match op {
@@ -32,7 +32,7 @@ fn un_op(op: UnaryOp) -> UnOp
     }
 }
 
-// Sees that the operand suits the operator.
+// Checks that the operand suits the operator.
 fn check_operand(op: UnaryOp, e: &Value) -> Result<(), CheckError>
     ensures { Allows (of_rule 11 (rule.unary_11 op (of_value e.now)) []) result }
 {

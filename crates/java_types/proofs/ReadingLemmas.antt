@@ -7,7 +7,7 @@ use Rattle.java_syntax.specs.declared.class.Member.TheVariants as member
 use Rattle.java_syntax.specs.declared.class.ClassTree.{ClassTree}
 use Rattle.class_table.specs.Members.{is_static}
 use Rattle.java_exprs.specs.declared.environment.Environment.{Environment}
-use Rattle.java_exprs.specs.declared.literal.Literal.{Literal}
+use Rattle.primitive_operators.specs.declared.scalar.Scalar.{Scalar}
 use Rattle.java_exprs.specs.Checks.{Refuses}
 use Rattle.java_exprs.proofs.RulesLemmas.{refuses_left}
 use Rattle.java_types.specs.Answers.{read_in}
@@ -15,14 +15,14 @@ use Rattle.java_types.specs.Constants.{Reading, with_constants, constant_faults,
 
 -- ---- the constants that the environment has don't matter, since those read so far take their place
 
-member_same : (env : Environment) (cs : List (ℕ × Option Literal)) (c : ℕ) (m : Member) (before : Reading)
+member_same : (env : Environment) (cs : List (ℕ × Option Scalar)) (c : ℕ) (m : Member) (before : Reading)
     → read_member (with_constants env cs) c m before ≡ read_member env c m before
 member_same env cs c (member.Field f) before = refl
 member_same env cs c (member.Method m) before = refl
 member_same env cs c (member.Maker m) before = refl
 member_same env cs c member.Empty before = refl
 
-members_same : (env : Environment) (cs : List (ℕ × Option Literal)) (c : ℕ) (ms : List Member) (before : Reading)
+members_same : (env : Environment) (cs : List (ℕ × Option Scalar)) (c : ℕ) (ms : List Member) (before : Reading)
     → read_members (with_constants env cs) c ms before ≡ read_members env c ms before
 unfolding read_members
 members_same env cs c [] before = refl

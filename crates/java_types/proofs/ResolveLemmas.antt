@@ -12,7 +12,7 @@ use Rattle.core_tree.specs.declared.program.Program.{Program}
 use Rattle.class_table.specs.declared.row.ClassTable.{ClassTable}
 use Rattle.java_names.specs.declared.scope.Scope.{Scope}
 use Rattle.java_exprs.specs.declared.environment.Environment.{Environment}
-use Rattle.java_exprs.specs.declared.literal.Literal.{Literal}
+use Rattle.primitive_operators.specs.declared.scalar.Scalar.{Scalar}
 use Rattle.java_exprs.specs.Attr.{of_rule}
 use Rattle.java_exprs.specs.Checks.{Refuses}
 use Rattle.java_exprs.specs.Lookups.{unknown_type}
@@ -26,7 +26,7 @@ use Rattle.java_types.proofs.FileLemmas.{refuses_declared, refuses_first_of, ref
 
 -- ---- declarations read no constants
 
-module _ (env : Environment) (cs : List (ℕ × Option Literal)) where
+module _ (env : Environment) (cs : List (ℕ × Option Scalar)) where
   params_same : (ps : List ParamTree) (s : Scope) → params_10 (with_constants env cs) ps s ≡ params_10 env ps s
   unfolding params_10
   params_same [] s = refl

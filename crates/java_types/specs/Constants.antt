@@ -10,7 +10,7 @@ use Rattle.java_syntax.specs.declared.class.ClassTree.{ClassTree}
 use Rattle.class_table.specs.Members.{is_static}
 use Rattle.java_names.specs.Types.{declared_type}
 use Rattle.java_exprs.specs.declared.environment.Environment.{Environment}
-use Rattle.java_exprs.specs.declared.literal.Literal.{Literal}
+use Rattle.primitive_operators.specs.declared.scalar.Scalar.{Scalar}
 use Rattle.java_exprs.specs.declared.folded.Folded.{Folded}
 use Rattle.java_exprs.specs.declared.folded.Folded.TheVariants as folded
 use Rattle.java_exprs.specs.Attr.{unless, of_rule, value_faults}
@@ -21,7 +21,7 @@ use Rattle.java_types.specs.Declarations.{constant_scope}
 
 -- the constants before a place of the file by the tokens of their names, with their values, and what they break
 pub record Reading : Type 0 where
-  pub constants : List (ℕ × Option Literal)
+  pub constants : List (ℕ × Option Scalar)
   pub faults : List Fault
 
 -- ---- one constant of class c, where the environment has the constants before it
@@ -53,15 +53,15 @@ constant_faults env c f = option_map_or (constant_faults_of env c f) f.value [] 
 
 -- ---- all constants
 
-abbrev pub with_constants : Environment → List (ℕ × Option Literal) → Environment
+abbrev pub with_constants : Environment → List (ℕ × Option Scalar) → Environment
 with_constants env constants = record env { constants = constants }
 
 -- a constant that breaks a rule has no value
-abbrev pub where_sound : List Fault → Option Literal → Option Literal
+abbrev pub where_sound : List Fault → Option Scalar → Option Scalar
 where_sound [] value = value
 where_sound (f ∷ fs) value = None
 
-abbrev pub constant_value : Environment → ℕ → FieldTree → Option Literal
+abbrev pub constant_value : Environment → ℕ → FieldTree → Option Scalar
 constant_value env c f = where_sound (constant_faults env c f) (literal_of (initialiser_folded env c f))
 
 abbrev pub read_constant : Environment → ℕ → FieldTree → Reading → Reading

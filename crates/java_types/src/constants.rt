@@ -17,13 +17,14 @@ use java_constants::fold;
 use java_exprs::arguments::fit;
 use java_exprs::expression::value;
 use java_exprs::fault::fault;
-use java_exprs::{Environment, Folded, Literal};
+use java_exprs::{Environment, Folded};
+use primitive_operators::Scalar;
 use java_syntax::{CheckError, ClassTree, Expr, FieldTree, Member};
 use std::alloc::Global;
 
 // The value of a constant whose name is token number `at` and whose initialiser this is; `None` where the initialiser has
 // none, since it breaks another rule.
-fn literal(folded: Folded, at: u32) -> Result<Option<Literal>, CheckError>
+fn literal(folded: Folded, at: u32) -> Result<Option<Scalar>, CheckError>
     ensures value { IfOk result (λ v. v ≡ literal_of folded) }
     ensures clear { OnOk result (of_rule 20 (unless (spec.is_initialiser folded) at) [] ≡ []) }
     ensures fault { IfErr result (Refuses (of_rule 20 (unless (spec.is_initialiser folded) at) [])) }
@@ -60,7 +61,7 @@ fn initial_value(
     class: u32,
     field: &FieldTree,
     e: &Expr,
-) -> Result<Option<Literal>, CheckError>
+) -> Result<Option<Scalar>, CheckError>
     ensures value { IfOk result (λ v. v ≡ literal_of (folded_of env.now (constant_scope class) e.now)) }
     ensures clear { OnOk result (spec.constant_faults_of env.now class field.now e.now ++ of_rule 20 (unless (spec.is_initialiser (folded_of env.now (constant_scope class) e.now)) field.now.name.at) [] ≡ []) }
     ensures fault { IfErr result (Refuses (spec.constant_faults_of env.now class field.now e.now ++ of_rule 20 (unless (spec.is_initialiser (folded_of env.now (constant_scope class) e.now)) field.now.name.at) [])) }
@@ -76,7 +77,7 @@ fn constant(
     env: &Environment,
     class: u32,
     field: &FieldTree,
-) -> Result<Option<Literal>, CheckError>
+) -> Result<Option<Scalar>, CheckError>
     ensures value { IfOk result (λ v. v ≡ literal_of (spec.initialiser_folded env.now class field.now)) }
     ensures clear { OnOk result (spec.constant_faults env.now class field.now ≡ []) }
     ensures fault { IfErr result (Refuses (spec.constant_faults env.now class field.now)) }

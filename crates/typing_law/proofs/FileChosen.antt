@@ -27,7 +27,7 @@ use Rattle.java_names.specs.Lookups.{line_of, is_below, nearest, method_in, meth
 use Rattle.java_names.specs.Numbers.{first_numbers}
 use Rattle.java_names.specs.Selectors.{same_selector, selector_of, message_selector}
 use Rattle.java_names.specs.Symbols.{class_symbol, method_symbol, method_symbols, selectors_in}
-use Rattle.java_exprs.specs.declared.literal.Literal.{Literal}
+use Rattle.primitive_operators.specs.declared.scalar.Scalar.{Scalar}
 use Rattle.java_exprs.specs.Lookups.{method_of}
 use Rattle.java_types.specs.Declarations.{declaration_faults}
 use Rattle.java_types.specs.Files.{of_members, core_class}
@@ -69,7 +69,7 @@ no_position names all owner number ms key is = cases (position (same_selector ke
         let r = some_within ms n (omega arith) in
         absurd (none-some (method_symbol names all owner (shifted number n) r.0) (sym is ∙ method_symbol_at names all owner number ms n ∙ ap (option_map (method_symbol names all owner (shifted number n))) r.1))
 
-module _ (tree : FileTree) (constants : List (ℕ × Option Literal)) (none : of_members (declaration_faults (env_with (table_of tree) tree [])) 18 tree.classes ≡ [])
+module _ (tree : FileTree) (constants : List (ℕ × Option Scalar)) (none : of_members (declaration_faults (env_with (table_of tree) tree [])) 18 tree.classes ≡ [])
     (is_table : IsTable (table_of tree)) (short : (c : ℕ) (row : ClassRow) → slice_get (table_of tree).classes c ≡ Some row → length row.line ≤ length (table_of tree).classes) where
   abbrev table : ClassTable
   table = table_of tree

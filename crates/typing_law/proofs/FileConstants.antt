@@ -31,8 +31,8 @@ use Rattle.class_table.specs.TableFacts.{IsTable}
 use Rattle.java_names.specs.declared.symbol.FieldSymbol.{FieldSymbol}
 use Rattle.java_names.specs.Types.{declared_type}
 use Rattle.java_exprs.specs.declared.environment.Environment.{Environment}
-use Rattle.java_exprs.specs.declared.literal.Literal.{Literal}
-use Rattle.java_exprs.specs.declared.literal.Literal.TheVariants as literal
+use Rattle.primitive_operators.specs.declared.scalar.Scalar.{Scalar}
+use Rattle.primitive_operators.specs.declared.scalar.Scalar.TheVariants as scalar
 use Rattle.java_exprs.specs.declared.folded.Folded.{Folded}
 use Rattle.java_exprs.specs.declared.folded.Folded.TheVariants as folded
 use Rattle.java_exprs.specs.declared.typed.Denotation.TheVariants as denotes
@@ -61,7 +61,7 @@ use Rattle.typing_law.proofs.LiteralKinds.{Kind, AnInt, ABool, AText, ANull, kin
 use Rattle.typing_law.proofs.FoldedNodes.{Matches, ReadFits, folded_sound}
 
 abbrev Entries : Type 0
-Entries = List (ℕ × Option Literal)
+Entries = List (ℕ × Option Scalar)
 
 -- ---- the first entry of a token
 
@@ -84,12 +84,12 @@ found_there test (y ∷ xs) (suc k) x is holds = cases (found_there test xs k x 
 
 -- ---- kinds of constants
 
-literal_fits : (v : Literal) (k : Kind) → Fits v k → null_kind k ≡ false → IsTrue (is_literal_of v (kind_type k))
-literal_fits (literal.Int n) AnInt fits is = ap (λ b. b && is_int_number n) facts.is_int-Int ∙ fits
-literal_fits (literal.Bool b) ABool fits is = facts.is_boolean-Bool
-literal_fits (literal.Text t) AText fits is = facts.is_string-Text
-literal_fits literal.Null AText fits is = facts.is_string-Text
-literal_fits literal.Null ANull fits is = absurd (false≢true (sym is))
+literal_fits : (v : Scalar) (k : Kind) → Fits v k → null_kind k ≡ false → IsTrue (is_literal_of v (kind_type k))
+literal_fits (scalar.Int n) AnInt fits is = ap (λ b. b && is_int_number n) facts.is_int-Int ∙ fits
+literal_fits (scalar.Bool b) ABool fits is = facts.is_boolean-Bool
+literal_fits (scalar.Text t) AText fits is = facts.is_string-Text
+literal_fits scalar.Null AText fits is = facts.is_string-Text
+literal_fits scalar.Null ANull fits is = absurd (false≢true (sym is))
 literal_fits _ _ fits is = absurd fits
 
 -- a type of constants
@@ -153,8 +153,8 @@ module _ (tree : FileTree) (is_table : IsTable (table_of tree)) (clear : Clear (
   first = env_with table tree []
 
   -- an entry has a value of the type of a declaration by its token
-  record IsRead (at : ℕ) (o : Option Literal) : Type 0 where
-    value : Literal
+  record IsRead (at : ℕ) (o : Option Scalar) : Type 0 where
+    value : Scalar
     is : o ≡ Some value
     spelled : TypeTree
     stands : Stands tree [] none at spelled
@@ -165,13 +165,13 @@ module _ (tree : FileTree) (is_table : IsTable (table_of tree)) (clear : Clear (
   AllRead = Each (λ e. IsRead e.0 e.1)
 
   abbrev Has : Entries → ℕ → Type 0
-  Has cs at = (i : ℕ) × (e : ℕ × Option Literal) × (slice_get cs i ≡ Some e) × (e.0 ≡ at)
+  Has cs at = (i : ℕ) × (e : ℕ × Option Scalar) × (slice_get cs i ≡ Some e) × (e.0 ≡ at)
 
   -- what is read by the token of a field has the field's type
   same_type : (at : ℕ) (t u : TypeTree) → Stands tree [] none at t → Stands tree [] none at u → t ≡ u
   same_type at t u a b = sym a.5 ∙ own a.0 b.0 a.1 b.1 a.2 b.2 a.3 b.3 (a.4 ∙ sym b.4) ∙ b.5
 
-  read_type : (cs : Entries) (c : ℕ) (m : FieldSymbol) (found : FieldFound tree cs none c m) (o : Option Literal) → (read : IsRead m.at o) → m.ty ≡ kind_type read.kind.kind
+  read_type : (cs : Entries) (c : ℕ) (m : FieldSymbol) (found : FieldFound tree cs none c m) (o : Option Scalar) → (read : IsRead m.at o) → m.ty ≡ kind_type read.kind.kind
   read_type cs c m found o read =
       let row = found.row in
       let at : m.at ≡ row.at = ap (λ s. s.at) found.is_symbol in
@@ -182,10 +182,10 @@ module _ (tree : FileTree) (is_table : IsTable (table_of tree)) (clear : Clear (
   read_fits : (cs : Entries) → AllRead cs → (c : ℕ) (x : Name) (m : FieldSymbol) → member_of (env_with table tree cs) c x ≡ Some m → ReadFits m.ty (field_folded (env_with table tree cs) m)
   read_fits cs all c x m is = cases (find (λ e. e.0 == m.at) cs) refl
     where
-      of_value : (o : Option Literal) (v : Literal) (k : Kind) → o ≡ Some v → m.ty ≡ kind_type k → Fits v k → ReadFits m.ty (read_folded (Some o))
+      of_value : (o : Option Scalar) (v : Scalar) (k : Kind) → o ≡ Some v → m.ty ≡ kind_type k → Fits v k → ReadFits m.ty (read_folded (Some o))
       of_value o v k is_o type fits = subst (λ o. ReadFits m.ty (read_folded (Some o))) (sym is_o) (k, type, fits)
 
-      cases : (e : Option (ℕ × Option Literal)) → find (λ e. e.0 == m.at) cs ≡ e → ReadFits m.ty (read_folded (option_map (λ c. c.1) e))
+      cases : (e : Option (ℕ × Option Scalar)) → find (λ e. e.0 == m.at) cs ≡ e → ReadFits m.ty (read_folded (option_map (λ c. c.1) e))
       cases None is_found = tt
       cases (Some e) is_found =
           let there = found_in (λ e. e.0 == m.at) cs e is_found in
@@ -198,7 +198,7 @@ module _ (tree : FileTree) (is_table : IsTable (table_of tree)) (clear : Clear (
   faultless e = of_rule 10 (named_10 e) (of_rule 11 (nothing_11 e) (of_rule 19 (bare_19 e) []))
 
   initial_value : (cs : Entries) → AllRead cs → (c : ℕ) (f : FieldTree) (k : Kind) → declared_type (all_names tree [] none) f.ty ≡ kind_type k → constant_faults (env_with table tree cs) c f ≡ [] →
-      (v : Literal) × (constant_value (env_with table tree cs) c f ≡ Some v) × Fits v k
+      (v : Scalar) × (constant_value (env_with table tree cs) c f ≡ Some v) × Fits v k
   initial_value cs all c f k type clear_of =
       let env = env_with table tree cs in
       let parts = empty_parts (option_map_or (constant_faults_of env c f) f.value []) (of_rule 20 (initialiser_20 env c f) []) clear_of in
@@ -211,7 +211,7 @@ module _ (tree : FileTree) (is_table : IsTable (table_of tree)) (clear : Clear (
       classes = (program_with table tree cs).classes
 
       of_folded : (e : Expr) (g : Folded) → Matches (attr (env_with table tree cs) (constant_scope c) e).denotes g → is_initialiser g ≡ true → wants_type (env_with table tree cs) (declared_type (all_names tree [] none) f.ty) (attr (env_with table tree cs) (constant_scope c) e) ≡ [] →
-          (v : Literal) × (literal_of g ≡ Some v) × Fits v k
+          (v : Scalar) × (literal_of g ≡ Some v) × Fits v k
       of_folded e folded.Unknown matches is_one wants_none = absurd matches
       of_folded e folded.Fails matches is_one wants_none = absurd (false≢true is_one)
       of_folded e (folded.Class d) matches is_one wants_none = absurd (false≢true is_one)
@@ -226,7 +226,7 @@ module _ (tree : FileTree) (is_table : IsTable (table_of tree)) (clear : Clear (
           (v, refl, value_widens matches.0 k v (sym (widens_test env.symbols (program_with table tree cs).classes calls.below matches.0 k) ∙ fits) matches.2)
 
       of_expr : (o : Option Expr) → f.value ≡ o → is_initialiser (option_map_or (folded_of (env_with table tree cs) (constant_scope c)) o folded.Other) ≡ true → option_map_or (constant_faults_of (env_with table tree cs) c f) o [] ≡ [] →
-          (v : Literal) × (literal_of (option_map_or (folded_of (env_with table tree cs) (constant_scope c)) o folded.Other) ≡ Some v) × Fits v k
+          (v : Scalar) × (literal_of (option_map_or (folded_of (env_with table tree cs) (constant_scope c)) o folded.Other) ≡ Some v) × Fits v k
       of_expr None is is_one faults = absurd (false≢true is_one)
       of_expr (Some e) is is_one faults =
           let env = env_with table tree cs in
@@ -288,10 +288,10 @@ module _ (tree : FileTree) (is_table : IsTable (table_of tree)) (clear : Clear (
   single m after reads zero f is static = reads f (same_Some m (member.Field f) is) static
   single m after reads (suc i) f is static = absurd (none-some _ is)
 
-  has_kept : (cs : Entries) (e : ℕ × Option Literal) (at : ℕ) → Has cs at → Has (cs ++ e ∷ []) at
+  has_kept : (cs : Entries) (e : ℕ × Option Scalar) (at : ℕ) → Has cs at → Has (cs ++ e ∷ []) at
   has_kept cs e at has = (has.0, has.1, get_before cs (e ∷ []) has.0 has.1 has.2, has.3)
 
-  has_last : (cs : Entries) (e : ℕ × Option Literal) → Has (cs ++ e ∷ []) e.0
+  has_last : (cs : Entries) (e : ℕ × Option Scalar) → Has (cs ++ e ∷ []) e.0
   has_last [] e = (zero, e, refl, refl)
   has_last (x ∷ cs) e = let there = has_last cs e in (suc there.0, there.1, there.2, there.3)
 
@@ -308,7 +308,7 @@ module _ (tree : FileTree) (is_table : IsTable (table_of tree)) (clear : Clear (
       of_static static faults =
           let kind = declared_kind first c f in_file.0 static in
           let value = initial_value before.constants all c f kind.kind kind.is (empty_parts before.faults (constant_faults (env_with table tree before.constants) c f) faults).1 in
-          let entry : ℕ × Option Literal = (f.name.at, constant_value (env_with table tree before.constants) c f) in
+          let entry : ℕ × Option Scalar = (f.name.at, constant_value (env_with table tree before.constants) c f) in
           let read : IsRead f.name.at (constant_value (env_with table tree before.constants) c f) = record { value = value.0; is = value.1; spelled = f.ty; stands = in_file.1 f refl; kind = kind; fits = value.2 } in
           record {
             all = each_append (λ e. IsRead e.0 e.1) before.constants (entry ∷ []) all (one entry read);
@@ -316,7 +316,7 @@ module _ (tree : FileTree) (is_table : IsTable (table_of tree)) (clear : Clear (
             reads = single (member.Field f) (read_constant first c f before) (λ g is static_g. subst (λ h. Has (before.constants ++ entry ∷ []) h.name.at) (same_field g is) (has_last before.constants entry));
           }
         where
-          one : (e : ℕ × Option Literal) → IsRead e.0 e.1 → Each (λ e. IsRead e.0 e.1) (e ∷ [])
+          one : (e : ℕ × Option Scalar) → IsRead e.0 e.1 → Each (λ e. IsRead e.0 e.1) (e ∷ [])
           one e read zero x is = subst (λ e. IsRead e.0 e.1) (same_Some e x is) read
           one e read (suc i) x is = absurd (none-some x is)
 
@@ -380,7 +380,7 @@ module _ (tree : FileTree) (is_table : IsTable (table_of tree)) (clear : Clear (
   nothing_read i e is = absurd (none-some _ is)
 
   -- every constant that is looked up has a value of its type
-  pub constant_agrees : (reading_of table tree).faults ≡ [] → (c : ℕ) (x : Name) (m : FieldSymbol) → member_of (env_of table tree) c x ≡ Some m → m.place ≡ None → (v : Literal) × (constant_at (env_of table tree) m.at ≡ Some v) × IsTrue (is_literal_of v m.ty)
+  pub constant_agrees : (reading_of table tree).faults ≡ [] → (c : ℕ) (x : Name) (m : FieldSymbol) → member_of (env_of table tree) c x ≡ Some m → m.place ≡ None → (v : Scalar) × (constant_at (env_of table tree) m.at ≡ Some v) × IsTrue (is_literal_of v m.ty)
   constant_agrees faults c x m is no_place =
       let cs = (reading_of table tree).constants in
       let start : (i : ℕ) → 0 + i ≡ i = λ i. omega arith in

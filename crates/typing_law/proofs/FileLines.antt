@@ -16,7 +16,7 @@ use Rattle.java_names.specs.declared.symbol.MethodSymbol.{MethodSymbol}
 use Rattle.java_names.specs.Lookups.{class_at, line_of, is_below}
 use Rattle.java_names.specs.Numbers.{first_numbers}
 use Rattle.java_names.specs.Symbols.{class_symbol}
-use Rattle.java_exprs.specs.declared.literal.Literal.{Literal}
+use Rattle.primitive_operators.specs.declared.scalar.Scalar.{Scalar}
 use Rattle.java_exprs.specs.Lookups.{superclass_of, method_of}
 use Rattle.java_types.specs.Declarations.{declaration_faults}
 use Rattle.java_types.specs.Files.{of_members}
@@ -26,7 +26,7 @@ use Rattle.typing_law.proofs.Tables.{numbers_at, env_with, program_with, class_s
 use Rattle.typing_law.proofs.FileMakers.{shifted, found_by}
 use Rattle.typing_law.proofs.FileMethods.{IsGetMessage, IsOfFile, method_declared, all_names, all_selectors, first_method, symbols}
 
-module _ (tree : FileTree) (constants : List (ℕ × Option Literal)) (none : of_members (declaration_faults (env_with (table_of tree) tree [])) 18 tree.classes ≡ [])
+module _ (tree : FileTree) (constants : List (ℕ × Option Scalar)) (none : of_members (declaration_faults (env_with (table_of tree) tree [])) 18 tree.classes ≡ [])
     (is_table : IsTable (table_of tree)) (short : (c : ℕ) (row : ClassRow) → slice_get (table_of tree).classes c ≡ Some row → length row.line ≤ length (table_of tree).classes) where
   abbrev table : ClassTable
   table = table_of tree

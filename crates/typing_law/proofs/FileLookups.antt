@@ -17,7 +17,7 @@ use Rattle.class_table.specs.Table.{table_of}
 use Rattle.class_table.specs.TableFacts.{IsTable}
 use Rattle.java_names.specs.declared.symbol.MethodSymbol.{MethodSymbol}
 use Rattle.java_names.specs.Types.{declared_type}
-use Rattle.java_exprs.specs.declared.literal.Literal.{Literal}
+use Rattle.primitive_operators.specs.declared.scalar.Scalar.{Scalar}
 use Rattle.java_exprs.specs.Lookups.{method_of}
 use Rattle.java_types.specs.Declarations.{declaration_faults}
 use Rattle.java_types.specs.Files.{of_members}
@@ -31,7 +31,7 @@ use Rattle.typing_law.proofs.FileMethods.{IsGetMessage, IsOfFile, method_declare
 use Rattle.typing_law.proofs.FileChosen.{chosen_agrees, get_message_agrees}
 use Rattle.typing_law.proofs.FileMessages.{message_is}
 
-module _ (tree : FileTree) (constants : List (ℕ × Option Literal)) (none : of_members (declaration_faults (env_with (table_of tree) tree [])) 18 tree.classes ≡ [])
+module _ (tree : FileTree) (constants : List (ℕ × Option Scalar)) (none : of_members (declaration_faults (env_with (table_of tree) tree [])) 18 tree.classes ≡ [])
     (is_table : IsTable (table_of tree)) (short : (c : ℕ) (row : ClassRow) → slice_get (table_of tree).classes c ≡ Some row → length row.line ≤ length (table_of tree).classes) (clear : Clear (Breaks tree)) where
   pub methods_agree : (c : ℕ) (x : List ℕ) (arity : ℕ) (m : MethodSymbol) → method_of (env_with (table_of tree) tree constants) c x arity ≡ Some m → AgreesOnMethod (program_with (table_of tree) tree constants) c arity m
   methods_agree c x arity m is = ⊎_elim of_message of_file (method_declared tree constants none c x arity m is)
@@ -61,7 +61,7 @@ module _ (tree : FileTree) (constants : List (ℕ × Option Literal)) (none : of
           }
 
 -- all that is called is as the program has it
-pub calls_agree : (tree : FileTree) (constants : List (ℕ × Option Literal)) → IsTable (table_of tree) → Clear (Breaks tree) → of_members (declaration_faults (env_with (table_of tree) tree [])) 18 tree.classes ≡ [] →
+pub calls_agree : (tree : FileTree) (constants : List (ℕ × Option Scalar)) → IsTable (table_of tree) → Clear (Breaks tree) → of_members (declaration_faults (env_with (table_of tree) tree [])) 18 tree.classes ≡ [] →
     AgreesOnCalls (env_with (table_of tree) tree constants) (program_with (table_of tree) tree constants)
 calls_agree tree constants is_table clear none =
     let declared = declared_of tree.classes in

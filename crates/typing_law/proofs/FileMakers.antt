@@ -28,7 +28,7 @@ use Rattle.class_table.specs.declared.row.ClassTable.{ClassTable}
 use Rattle.class_table.specs.Table.{table_of}
 use Rattle.java_names.specs.Numbers.{first_numbers}
 use Rattle.java_names.specs.Symbols.{names_of}
-use Rattle.java_exprs.specs.declared.literal.Literal.{Literal}
+use Rattle.primitive_operators.specs.declared.scalar.Scalar.{Scalar}
 use Rattle.java_types.specs.Bodies.{made_maker}
 use Rattle.java_types.specs.Declarations.{declaration_faults}
 use Rattle.typing_law.specs.Agrees.{AgreesOnMaker}
@@ -97,7 +97,7 @@ written_found names c number ms arity m is =
     let y = found_by (maker_symbol names c (shifted number n)) (slice_get ms n) m (sym (maker_symbol_at names c number ms n) ∙ is_m) in
     (n, y.0, y.1, y.2, arity_of (λ m. length m.params) ms arity n y.0 is_n y.1))
 
-module _ (tree : FileTree) (constants : List (ℕ × Option Literal)) (none : of_members (declaration_faults (env_with (table_of tree) tree [])) 18 tree.classes ≡ []) where
+module _ (tree : FileTree) (constants : List (ℕ × Option Scalar)) (none : of_members (declaration_faults (env_with (table_of tree) tree [])) 18 tree.classes ≡ []) where
   abbrev table : ClassTable
   table = table_of tree
 

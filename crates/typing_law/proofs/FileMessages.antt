@@ -35,7 +35,7 @@ use Rattle.java_names.specs.Lookups.{is_below}
 use Rattle.typing_law.proofs.FileChosen.{row_of_below}
 use Rattle.java_names.specs.Selectors.{same_selector, selector_of, message_selector}
 use Rattle.java_names.specs.Types.{answer_type, arrays, base_type, named_type, declared_types}
-use Rattle.java_exprs.specs.declared.literal.Literal.{Literal}
+use Rattle.primitive_operators.specs.declared.scalar.Scalar.{Scalar}
 use Rattle.java_types.specs.Declarations.{declaration_faults}
 use Rattle.java_types.specs.Files.{of_members}
 use Rattle.typing_law.proofs.Standing.{and_l, and_r}
@@ -92,7 +92,7 @@ throwable_called tree y same = found same
     found : same_selector (selector_of y) message_selector ≡ true → find (λ a. same_name y.name a.name && nat_eq (length y.params) (length a.params)) (get_message ∷ []) ≡ Some get_message
     found same = grind (arith, same)
 
-module _ (tree : FileTree) (constants : List (ℕ × Option Literal)) (none : of_members (declaration_faults (env_with (table_of tree) tree [])) 18 tree.classes ≡ [])
+module _ (tree : FileTree) (constants : List (ℕ × Option Scalar)) (none : of_members (declaration_faults (env_with (table_of tree) tree [])) 18 tree.classes ≡ [])
     (is_table : IsTable (table_of tree)) (short : (c : ℕ) (row : ClassRow) → slice_get (table_of tree).classes c ≡ Some row → length row.line ≤ length (table_of tree).classes) (clear : Clear (Breaks tree)) where
   abbrev table : ClassTable
   table = table_of tree

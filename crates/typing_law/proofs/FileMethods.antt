@@ -32,7 +32,7 @@ use Rattle.java_names.specs.Selectors.{same_selector, selector_of, selectors_of}
 use Rattle.java_names.specs.Symbols.{class_symbol, following, method_symbol, method_symbols, selectors_in, names_of, symbols_of}
 use Rattle.java_names.specs.Types.{declared_types, answer_type}
 use Rattle.java_exprs.specs.declared.environment.Environment.{Environment}
-use Rattle.java_exprs.specs.declared.literal.Literal.{Literal}
+use Rattle.primitive_operators.specs.declared.scalar.Scalar.{Scalar}
 use Rattle.java_exprs.specs.Lookups.{method_of}
 use Rattle.java_types.specs.Bodies.{core_method}
 use Rattle.java_types.specs.Declarations.{declaration_faults}
@@ -149,7 +149,7 @@ nearest_in at (c ∷ line) x is = cases (nearest_in at line x) (at c) refl is
     cases more (Some y) is_c is = (c, or_left (c == c) (list_any (λ a. a == c) line) (eq-eqb c c refl), is_c ∙ is)
 
 -- a method of the file that class d declares
-module _ (tree : FileTree) (constants : List (ℕ × Option Literal)) (none : of_members (declaration_faults (env_with (table_of tree) tree [])) 18 tree.classes ≡ []) where
+module _ (tree : FileTree) (constants : List (ℕ × Option Scalar)) (none : of_members (declaration_faults (env_with (table_of tree) tree [])) 18 tree.classes ≡ []) where
   abbrev table : ClassTable
   table = table_of tree
 

@@ -24,8 +24,8 @@ use Rattle.java_names.specs.declared.symbol.FieldSymbol.{FieldSymbol}
 use Rattle.java_names.specs.Lookups.{is_below}
 use Rattle.java_names.specs.Scope.{Denoted, Local, Field, Class, Unknown, meaning_of}
 use Rattle.java_exprs.specs.declared.environment.Environment.{Environment}
-use Rattle.java_exprs.specs.declared.literal.Literal.{Literal}
-use Rattle.java_exprs.specs.declared.literal.Literal.TheVariants as literal
+use Rattle.primitive_operators.specs.declared.scalar.Scalar.{Scalar}
+use Rattle.primitive_operators.specs.declared.scalar.Scalar.TheVariants as scalar
 use Rattle.java_exprs.specs.declared.folded.Folded.{Folded}
 use Rattle.java_exprs.specs.declared.folded.Folded.TheVariants as folded
 use Rattle.java_exprs.specs.declared.typed.Denotation.{Denotation}
@@ -38,7 +38,7 @@ use Rattle.java_exprs.specs.Denotes.{value, binary_type, bitwise_type, class_den
 use Rattle.java_exprs.specs.Rules.{wants, of_types, both_11, bitwise_11, is_bitwise, fits_bitwise, equality_11, equality_16, sum_11, choice_11}
 use Rattle.java_exprs.specs.Checks.{attr, attr_at}
 use Rattle.java_exprs.specs.Constants.{field_folded, found_folded, name_folded, behind_folded, folded_at, folded_of}
-use Rattle.java_exprs.specs.Operators.{is_made, unary_folded, binary_folded, strict_folded, binary_value, int_value, bool_value, choice_folded, gives_bool, gives_int}
+use Rattle.java_exprs.specs.Operators.{is_made, unary_folded, binary_folded, strict_folded, binary_value, choice_folded, gives_bool, gives_int}
 use Rattle.typing_law.proofs.TypeFacts as facts
 use Rattle.typing_law.proofs.NoFaults.{empty_parts, empty_rule, unless_empty, only_if_empty}
 use Rattle.typing_law.proofs.Standing.{and_l, and_r}
@@ -174,7 +174,7 @@ equates_of ANull ABool x y = absurd (false≢true x)
 equates_of ANull AText x y = tt
 equates_of ANull ANull x y = tt
 
-any_text : (a b : Kind) → (text_kind a || text_kind b) ≡ true → (v w : Literal) → Fits v a → Fits w b → FoldFits (binary_value binary.Add v w) AText
+any_text : (a b : Kind) → (text_kind a || text_kind b) ≡ true → (v w : Scalar) → Fits v a → Fits w b → FoldFits (binary_value binary.Add v w) AText
 any_text AText b is v w x y = joined_left v w x
 any_text AnInt AText is v w x y = joined_right v w y
 any_text ABool AText is v w x y = joined_right v w y
@@ -190,7 +190,7 @@ any_text ANull ABool is v w x y = absurd (false≢true is)
 any_text ANull ANull is v w x y = absurd (false≢true is)
 
 -- a String and another value, or two ints
-sum_fits : (a b : Kind) → ((text_kind a || text_kind b) ≡ false → (a ≡ AnInt) × (b ≡ AnInt)) → (v w : Literal) → Fits v a → Fits w b → FoldFits (binary_value binary.Add v w) (sum_kind a b)
+sum_fits : (a b : Kind) → ((text_kind a || text_kind b) ≡ false → (a ≡ AnInt) × (b ≡ AnInt)) → (v w : Scalar) → Fits v a → Fits w b → FoldFits (binary_value binary.Add v w) (sum_kind a b)
 sum_fits a b ints v w x y = cases (text_kind a || text_kind b) refl
   where
     cases : (any : Bool) → (text_kind a || text_kind b) ≡ any → FoldFits (binary_value binary.Add v w) (if any then AText else AnInt)
@@ -298,7 +298,7 @@ module _ (env : Environment) (s : Scope) (classes : List CoreClass) (agree : (c 
         let parts = empty_parts (wants is_boolean l) (wants is_boolean r) none in
         (bool_of t.0.0 (wanted is_boolean l t.0.0 t.0.1 parts.0), bool_of t.1.0 (wanted is_boolean r t.1.0 t.1.1 parts.1))
 
-    ints_folded : (op : BinaryOp) (k : Kind) → ((m n : ℤ) → FoldFits (int_value op m n) k) → (t : Operands) → both_11 is_int l r ≡ [] → FoldFits (strict_folded op f g) k
+    ints_folded : (op : BinaryOp) (k : Kind) → ((m n : ℤ) → FoldFits (binary_value op (scalar.Int m) (scalar.Int n)) k) → (t : Operands) → both_11 is_int l r ≡ [] → FoldFits (strict_folded op f g) k
     ints_folded op k each t none =
         let is = both_ints t none in
         strict_fits op f g AnInt AnInt k (subst (FoldFits f) is.0 t.0.2) (subst (FoldFits g) is.1 t.1.2) (ints_fit op k each)
@@ -326,12 +326,12 @@ module _ (env : Environment) (s : Scope) (classes : List CoreClass) (agree : (c 
         ∙ ap (λ x. if is_int (kind_type a) then is_int (kind_type b) else (if is_boolean (kind_type a) then x else (is_int (kind_type b) || x))) (sym (bool_test b))
         ∙ second)
 
-    bits_values : (op : BinaryOp) (a b : Kind) → Bits a b → ((m n : ℤ) → FoldFits (int_value op m n) AnInt) → ((m n : Bool) → FoldFits (bool_value op m n) ABool) → (v w : Literal) → Fits v a → Fits w b → FoldFits (binary_value op v w) (bits_kind a)
+    bits_values : (op : BinaryOp) (a b : Kind) → Bits a b → ((m n : ℤ) → FoldFits (binary_value op (scalar.Int m) (scalar.Int n)) AnInt) → ((m n : Bool) → FoldFits (binary_value op (scalar.Bool m) (scalar.Bool n)) ABool) → (v w : Scalar) → Fits v a → Fits w b → FoldFits (binary_value op v w) (bits_kind a)
     bits_values op AnInt AnInt ok ints bools v w x y = ints_fit op AnInt ints v w x y
     bits_values op ABool ABool ok ints bools v w x y = bools_fit op ABool bools v w x y
     bits_values op _ _ ok ints bools v w x y = absurd ok
 
-    bits_typed : (op : BinaryOp) → ((m n : ℤ) → FoldFits (int_value op m n) AnInt) → ((m n : Bool) → FoldFits (bool_value op m n) ABool) → (t : Operands) → bitwise_11 l r ≡ [] → Typed (value (bitwise_type (value_type l.denotes))) (strict_folded op f g)
+    bits_typed : (op : BinaryOp) → ((m n : ℤ) → FoldFits (binary_value op (scalar.Int m) (scalar.Int n)) AnInt) → ((m n : Bool) → FoldFits (binary_value op (scalar.Bool m) (scalar.Bool n)) ABool) → (t : Operands) → bitwise_11 l r ≡ [] → Typed (value (bitwise_type (value_type l.denotes))) (strict_folded op f g)
     bits_typed op ints bools t none =
         (bits_kind t.0.0, bits_said t, strict_fits op f g t.0.0 t.1.0 (bits_kind t.0.0) t.0.2 t.1.2 (bits_values op t.0.0 t.1.0 (bits_operands t none) ints bools))
 

@@ -11,8 +11,8 @@ use Rattle.core_tree.proofs.TypeNodes.{is_assignable-Int, is_assignable-Bool, is
 use Rattle.java_names.specs.declared.symbol.Symbols.{Symbols}
 use Rattle.java_names.specs.Lookups.{is_below}
 use Rattle.java_exprs.specs.Types as rules
-use Rattle.java_exprs.specs.declared.literal.Literal.{Literal}
-use Rattle.java_exprs.specs.declared.literal.Literal.TheVariants as literal
+use Rattle.primitive_operators.specs.declared.scalar.Scalar.{Scalar}
+use Rattle.primitive_operators.specs.declared.scalar.Scalar.TheVariants as scalar
 use Rattle.java_exprs.specs.declared.folded.Folded.{Folded}
 use Rattle.java_exprs.specs.declared.folded.Folded.TheVariants as folded
 use Rattle.typing_law.proofs.Types.{same_assignable}
@@ -106,12 +106,12 @@ widens_test s classes agree a b = same_assignable s classes agree (kind_type a) 
 -- ---- values
 
 -- a value of the kind; null is a String
-abbrev pub Fits : Literal → Kind → Type 0
-Fits (literal.Int n) AnInt = IsTrue (is_int_number n)
-Fits (literal.Bool b) ABool = Unit {0}
-Fits (literal.Text t) AText = Unit {0}
-Fits literal.Null AText = Unit {0}
-Fits literal.Null ANull = Unit {0}
+abbrev pub Fits : Scalar → Kind → Type 0
+Fits (scalar.Int n) AnInt = IsTrue (is_int_number n)
+Fits (scalar.Bool b) ABool = Unit {0}
+Fits (scalar.Text t) AText = Unit {0}
+Fits scalar.Null AText = Unit {0}
+Fits scalar.Null ANull = Unit {0}
 Fits _ _ = ⊥
 
 -- an evaluation gives such a value, or none
@@ -122,32 +122,32 @@ FoldFits folded.Unknown k = ⊥
 FoldFits (folded.Class c) k = ⊥
 FoldFits folded.Other k = ⊥
 
-pub int_elim : (P : Literal → Type 0) → ((n : ℤ) → IsTrue (is_int_number n) → P (literal.Int n)) → (v : Literal) → Fits v AnInt → P v
-int_elim P int (literal.Int n) x = int n x
-int_elim P int (literal.Bool b) x = absurd x
-int_elim P int (literal.Text t) x = absurd x
-int_elim P int literal.Null x = absurd x
+pub int_elim : (P : Scalar → Type 0) → ((n : ℤ) → IsTrue (is_int_number n) → P (scalar.Int n)) → (v : Scalar) → Fits v AnInt → P v
+int_elim P int (scalar.Int n) x = int n x
+int_elim P int (scalar.Bool b) x = absurd x
+int_elim P int (scalar.Text t) x = absurd x
+int_elim P int scalar.Null x = absurd x
 
-pub bool_elim : (P : Literal → Type 0) → ((b : Bool) → P (literal.Bool b)) → (v : Literal) → Fits v ABool → P v
-bool_elim P bool (literal.Int n) x = absurd x
-bool_elim P bool (literal.Bool b) x = bool b
-bool_elim P bool (literal.Text t) x = absurd x
-bool_elim P bool literal.Null x = absurd x
+pub bool_elim : (P : Scalar → Type 0) → ((b : Bool) → P (scalar.Bool b)) → (v : Scalar) → Fits v ABool → P v
+bool_elim P bool (scalar.Int n) x = absurd x
+bool_elim P bool (scalar.Bool b) x = bool b
+bool_elim P bool (scalar.Text t) x = absurd x
+bool_elim P bool scalar.Null x = absurd x
 
-pub text_elim : (P : Literal → Type 0) → ((t : List ℕ) → P (literal.Text t)) → P literal.Null → (v : Literal) → Fits v AText → P v
-text_elim P text null (literal.Int n) x = absurd x
-text_elim P text null (literal.Bool b) x = absurd x
-text_elim P text null (literal.Text t) x = text t
-text_elim P text null literal.Null x = null
+pub text_elim : (P : Scalar → Type 0) → ((t : List ℕ) → P (scalar.Text t)) → P scalar.Null → (v : Scalar) → Fits v AText → P v
+text_elim P text null (scalar.Int n) x = absurd x
+text_elim P text null (scalar.Bool b) x = absurd x
+text_elim P text null (scalar.Text t) x = text t
+text_elim P text null scalar.Null x = null
 
-pub null_elim : (P : Literal → Type 0) → P literal.Null → (v : Literal) → Fits v ANull → P v
-null_elim P null (literal.Int n) x = absurd x
-null_elim P null (literal.Bool b) x = absurd x
-null_elim P null (literal.Text t) x = absurd x
-null_elim P null literal.Null x = null
+pub null_elim : (P : Scalar → Type 0) → P scalar.Null → (v : Scalar) → Fits v ANull → P v
+null_elim P null (scalar.Int n) x = absurd x
+null_elim P null (scalar.Bool b) x = absurd x
+null_elim P null (scalar.Text t) x = absurd x
+null_elim P null scalar.Null x = null
 
 -- a value is one of each wider kind
-pub value_widens : (a b : Kind) (v : Literal) → widens a b ≡ true → Fits v a → Fits v b
+pub value_widens : (a b : Kind) (v : Scalar) → widens a b ≡ true → Fits v a → Fits v b
 value_widens AnInt AnInt v wider x = x
 value_widens AnInt ABool v wider x = absurd (false≢true wider)
 value_widens AnInt AText v wider x = absurd (false≢true wider)

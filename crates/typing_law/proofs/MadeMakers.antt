@@ -36,7 +36,7 @@ use Rattle.java_names.specs.Selectors.{selectors_of}
 use Rattle.java_names.specs.Symbols.{class_symbol, makers_of, written_makers, made_makers, names_of, symbols_of}
 use Rattle.java_names.specs.Symbols as symbol_specs
 use Rattle.java_names.specs.declared.symbol.Makers.{Makers}
-use Rattle.java_exprs.specs.declared.literal.Literal.{Literal}
+use Rattle.primitive_operators.specs.declared.scalar.Scalar.{Scalar}
 use Rattle.java_exprs.specs.Lookups.{maker_of}
 use Rattle.java_types.specs.Bodies.{made_maker}
 use Rattle.java_types.specs.Declarations.{declaration_faults}
@@ -168,7 +168,7 @@ exception_params (suc (suc n)) y is = absurd (none-some y is)
 string_declared : (names : List Name) → declared_types names (string_type ∷ []) ≡ ty.Text ∷ []
 string_declared names = refl
 
-module _ (tree : FileTree) (constants : List (ℕ × Option Literal)) (none : of_members (declaration_faults (env_with (table_of tree) tree [])) 18 tree.classes ≡ []) where
+module _ (tree : FileTree) (constants : List (ℕ × Option Scalar)) (none : of_members (declaration_faults (env_with (table_of tree) tree [])) 18 tree.classes ≡ []) where
   abbrev table : ClassTable
   table = table_of tree
 

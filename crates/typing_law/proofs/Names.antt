@@ -22,8 +22,8 @@ use Rattle.java_names.specs.declared.scope.Scope.{Scope}
 use Rattle.java_names.specs.declared.symbol.FieldSymbol.{FieldSymbol}
 use Rattle.java_names.specs.declared.symbol.MethodSymbol.{MethodSymbol}
 use Rattle.java_exprs.specs.declared.environment.Environment.{Environment}
-use Rattle.java_exprs.specs.declared.literal.Literal.{Literal}
-use Rattle.java_exprs.specs.declared.literal.Literal.TheVariants as literal
+use Rattle.primitive_operators.specs.declared.scalar.Scalar.{Scalar}
+use Rattle.primitive_operators.specs.declared.scalar.Scalar.TheVariants as scalar
 use Rattle.java_exprs.specs.declared.typed.Denotation.{Denotation}
 use Rattle.java_exprs.specs.declared.typed.Denotation.TheVariants as denotes
 use Rattle.java_exprs.specs.declared.typed.Form.{Form}
@@ -82,12 +82,12 @@ place_element a i = refl
 
 module _ (p : Program) (s : CoreScope) where
   -- the value of a constant
-  pub literal_right : (v : Literal) (t : Ty) → IsTrue (is_literal_of v t) → IsTrue (is_value p t) → HasType p s (literal_core v) t
-  literal_right (literal.Int n) t is value =
+  pub literal_right : (v : Scalar) (t : Ty) → IsTrue (is_literal_of v t) → IsTrue (is_value p t) → HasType p s (literal_core v) t
+  literal_right (scalar.Int n) t is value =
       has_type p s (core.Int n) t (type_of-Int p s n ∙ where_holds (is_int_number n) ty.Int (and_r (is_int t) (is_int_number n) is) ∙ ap Some (sym (facts.int_type t (and_l (is_int t) (is_int_number n) is)))) (values_value p t value)
-  literal_right (literal.Bool b) t is value = has_type p s (core.Bool b) t (type_of-Bool p s b ∙ ap Some (sym (facts.boolean_type t is))) (values_value p t value)
-  literal_right (literal.Text text) t is value = has_type p s (core.Text text) t (type_of-Text p s text ∙ ap Some (sym (facts.string_type t is))) (values_value p t value)
-  literal_right literal.Null t is value = record { actual = ty.Null; typed = type_of-Null p s; stands = inr (facts.string_type t is, refl); values = values_value p t value }
+  literal_right (scalar.Bool b) t is value = has_type p s (core.Bool b) t (type_of-Bool p s b ∙ ap Some (sym (facts.boolean_type t is))) (values_value p t value)
+  literal_right (scalar.Text text) t is value = has_type p s (core.Text text) t (type_of-Text p s text ∙ ap Some (sym (facts.string_type t is))) (values_value p t value)
+  literal_right scalar.Null t is value = record { actual = ty.Null; typed = type_of-Null p s; stands = inr (facts.string_type t is, refl); values = values_value p t value }
 
   -- a call's result
   pub answer_right : (e : Core) (t : Ty) → type_of p s e ≡ Some t → IsTrue (is_value p t || is_void t) → Means p s e (Some (answer_denotes t))
@@ -157,7 +157,7 @@ module _ (env : Environment) (p : Program) (agrees : Agrees env p) (s : Scope) (
           form = record { place = place_field object place; type = t; said = variable_said t value; typed = typed };
         }
 
-    constant_right : (m : FieldSymbol) → IsTrue (is_value p m.ty) → (v : Literal) × (constant_at env m.at ≡ Some v) × IsTrue (is_literal_of v m.ty) → NameIsRight (option_map_or literal_core (constant_at env m.at) core.Null) (variable_denotes m.ty) (form.Constant x.at)
+    constant_right : (m : FieldSymbol) → IsTrue (is_value p m.ty) → (v : Scalar) × (constant_at env m.at ≡ Some v) × IsTrue (is_literal_of v m.ty) → NameIsRight (option_map_or literal_core (constant_at env m.at) core.Null) (variable_denotes m.ty) (form.Constant x.at)
     constant_right m value v = record {
       means = subst (λ found. Means p cs (option_map_or literal_core found core.Null) (variable_denotes m.ty)) (sym v.1) (variable_right (literal_core v.0) m.ty value (literal_right p cs v.0 m.ty v.2 value));
       form = tt;

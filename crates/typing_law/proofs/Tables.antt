@@ -26,7 +26,7 @@ use Rattle.java_names.specs.Numbers.{numbers_after, first_numbers}
 use Rattle.java_names.specs.Selectors.{selectors_of}
 use Rattle.java_names.specs.Symbols.{class_symbol, class_symbols, names_of, symbols_of}
 use Rattle.java_exprs.specs.declared.environment.Environment.{Environment}
-use Rattle.java_exprs.specs.declared.literal.Literal.{Literal}
+use Rattle.primitive_operators.specs.declared.scalar.Scalar.{Scalar}
 use Rattle.java_exprs.specs.Lookups.{superclass_of, class_named}
 use Rattle.java_types.specs.Files.{core_class, core_classes, program_in}
 
@@ -104,7 +104,7 @@ some_within [] k below = absurd (none_below k below)
 some_within (x ∷ xs) zero below = (x, refl)
 some_within (x ∷ xs) (suc k) below = some_within xs k (omega arith)
 
-module _ (table : ClassTable) (tree : FileTree) (constants : List (ℕ × Option Literal)) where
+module _ (table : ClassTable) (tree : FileTree) (constants : List (ℕ × Option Scalar)) where
   abbrev pub env_with : Environment
   env_with = record { symbols = symbols_of table; constants = constants; places = tree.places }
 

@@ -16,7 +16,7 @@ use Rattle.class_table.specs.Declarations.{declared_of}
 use Rattle.class_table.specs.Table.{row_of, table_of}
 use Rattle.class_table.specs.TableFacts.{IsTable}
 use Rattle.java_exprs.specs.declared.environment.Environment.{Environment}
-use Rattle.java_exprs.specs.declared.literal.Literal.{Literal}
+use Rattle.primitive_operators.specs.declared.scalar.Scalar.{Scalar}
 use Rattle.java_types.specs.Declarations.{declaration_faults}
 use Rattle.java_types.specs.Files.{of_members, core_classes, fields_of, all_own_fields}
 use Rattle.typing_law.proofs.Tables.{env_with, program_with}
@@ -45,7 +45,7 @@ first_fields : ℕ → List Field
 first_fields zero = []
 first_fields (suc c) = message_field ∷ []
 
-module _ (tree : FileTree) (constants : List (ℕ × Option Literal)) (none : of_members (declaration_faults (env_with (table_of tree) tree [])) 18 tree.classes ≡ [])
+module _ (tree : FileTree) (constants : List (ℕ × Option Scalar)) (none : of_members (declaration_faults (env_with (table_of tree) tree [])) 18 tree.classes ≡ [])
     (is_table : IsTable (table_of tree)) (short : (c : ℕ) (row : ClassRow) → slice_get (table_of tree).classes c ≡ Some row → length row.line ≤ length (table_of tree).classes) where
   abbrev table : ClassTable
   table = table_of tree

@@ -27,7 +27,7 @@ use Rattle.java_names.specs.Chosen.{chosen_method, chosen_of, first_picked, meth
 use Rattle.java_names.specs.Lookups.{is_below, line_of, nearest}
 use Rattle.java_names.specs.Selectors.{same_selector, selector_of, message_selector}
 use Rattle.java_names.specs.Types.{answer_type, declared_types}
-use Rattle.java_exprs.specs.declared.literal.Literal.{Literal}
+use Rattle.primitive_operators.specs.declared.scalar.Scalar.{Scalar}
 use Rattle.java_types.specs.Declarations.{declaration_faults}
 use Rattle.java_types.specs.Files.{of_members, core_class}
 use Rattle.typing_law.proofs.Standing.{and_r}
@@ -63,7 +63,7 @@ instance_of true b is same = absurd (false≢true (sym is))
 instance_of false true is same = absurd (false≢true same)
 instance_of false false is same = refl
 
-module _ (tree : FileTree) (constants : List (ℕ × Option Literal)) (none : of_members (declaration_faults (env_with (table_of tree) tree [])) 18 tree.classes ≡ [])
+module _ (tree : FileTree) (constants : List (ℕ × Option Scalar)) (none : of_members (declaration_faults (env_with (table_of tree) tree [])) 18 tree.classes ≡ [])
     (is_table : IsTable (table_of tree)) (short : (c : ℕ) (row : ClassRow) → slice_get (table_of tree).classes c ≡ Some row → length row.line ≤ length (table_of tree).classes) (clear : Clear (Breaks tree)) where
   abbrev table : ClassTable
   table = table_of tree

@@ -24,7 +24,7 @@ use Rattle.class_table.specs.Rules.{Breaks, UnknownSuperclass}
 use Rattle.class_table.specs.Table.{row_of, table_of}
 use Rattle.class_table.specs.TableFacts.{IsTable, line_above}
 use Rattle.java_names.specs.Lookups.{is_below}
-use Rattle.java_exprs.specs.declared.literal.Literal.{Literal}
+use Rattle.primitive_operators.specs.declared.scalar.Scalar.{Scalar}
 use Rattle.java_types.specs.Declarations.{declaration_faults}
 use Rattle.java_types.specs.Files.{of_members, core_class}
 use Rattle.typing_law.specs.Agrees.{IsOfFile}
@@ -92,7 +92,7 @@ known_parent tree clear j k is = cases k.parent refl
           };
         }))))
 
-module _ (tree : FileTree) (constants : List (ℕ × Option Literal)) where
+module _ (tree : FileTree) (constants : List (ℕ × Option Scalar)) where
   abbrev table : ClassTable
   table = table_of tree
 

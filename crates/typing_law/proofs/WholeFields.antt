@@ -27,7 +27,7 @@ use Rattle.class_table.specs.Table.{row_of, table_of}
 use Rattle.class_table.specs.TableFacts.{IsTable, line_above}
 use Rattle.java_names.specs.Types.{declared_type}
 use Rattle.java_exprs.specs.declared.environment.Environment.{Environment}
-use Rattle.java_exprs.specs.declared.literal.Literal.{Literal}
+use Rattle.primitive_operators.specs.declared.scalar.Scalar.{Scalar}
 use Rattle.java_exprs.specs.Lookups.{unknown_type}
 use Rattle.java_types.specs.Bodies.{core_field, field_faults}
 use Rattle.java_types.specs.Declarations.{declaration_faults}
@@ -45,7 +45,7 @@ use Rattle.typing_law.proofs.FileMakers.{found_by}
 use Rattle.typing_law.proofs.WholeLists.{all_flat, all_line, along_line, map_each, none_of}
 use Rattle.typing_law.proofs.WholeClasses.{class_there, row_there, of_file}
 
-module _ (tree : FileTree) (constants : List (ℕ × Option Literal)) (none : of_members (declaration_faults (env_with (table_of tree) tree [])) 18 tree.classes ≡ [])
+module _ (tree : FileTree) (constants : List (ℕ × Option Scalar)) (none : of_members (declaration_faults (env_with (table_of tree) tree [])) 18 tree.classes ≡ [])
     (is_table : IsTable (table_of tree)) (short : (c : ℕ) (row : ClassRow) → slice_get (table_of tree).classes c ≡ Some row → length row.line ≤ length (table_of tree).classes) where
   abbrev table : ClassTable
   table = table_of tree

@@ -34,7 +34,7 @@ use Rattle.class_table.specs.Rules as rules
 use Rattle.class_table.specs.Table.{table_of}
 use Rattle.java_names.specs.Types.{arrays, base_type, declared_types, named_type}
 use Rattle.java_exprs.specs.declared.environment.Environment.{Environment}
-use Rattle.java_exprs.specs.declared.literal.Literal.{Literal}
+use Rattle.primitive_operators.specs.declared.scalar.Scalar.{Scalar}
 use Rattle.java_types.specs.Bodies.{core_method}
 use Rattle.java_types.specs.Files.{of_members, own_method, method_tree, method_trees}
 use Rattle.java_names.proofs.NumberingLemmas.{is_some-position}
@@ -142,7 +142,7 @@ string_array names (t ∷ []) is =
     ap (λ b. unwrap_or (option_map (arrays t.dimensions) b) ty.Void ∷ []) (string_base names t.base (and_l (rules.is_string t.base) (t.dimensions == 1) is))
     ∙ ap (λ n. arrays n ty.Text ∷ []) dimensions
 
-module _ (tree : FileTree) (constants : List (ℕ × Option Literal)) (clear : Clear (Breaks tree)) where
+module _ (tree : FileTree) (constants : List (ℕ × Option Scalar)) (clear : Clear (Breaks tree)) where
   abbrev table : ClassTable
   table = table_of tree
 

@@ -17,7 +17,7 @@ use Rattle.class_table.specs.Rules.{Breaks}
 use Rattle.class_table.specs.Table.{table_of}
 use Rattle.java_names.specs.declared.scope.Scope.{Scope}
 use Rattle.java_exprs.specs.declared.environment.Environment.{Environment}
-use Rattle.java_exprs.specs.declared.literal.Literal.{Literal}
+use Rattle.primitive_operators.specs.declared.scalar.Scalar.{Scalar}
 use Rattle.java_exprs.specs.Lookups.{unknown_type}
 use Rattle.java_statements.specs.Statements.{again_10, exception_10}
 use Rattle.java_types.specs.Bodies.{core_method, core_maker, made_maker}
@@ -31,7 +31,7 @@ use Rattle.typing_law.proofs.FileClasses.{none_10, of_class}
 use Rattle.typing_law.proofs.WholeLists.{all_members, all_made, none_made, none_of}
 use Rattle.typing_law.proofs.WholeClasses.{of_file}
 
-module _ (tree : FileTree) (constants : List (ℕ × Option Literal)) (none : of_members (declaration_faults (env_with (table_of tree) tree [])) 18 tree.classes ≡ []) (clear : Clear (Breaks tree))
+module _ (tree : FileTree) (constants : List (ℕ × Option Scalar)) (none : of_members (declaration_faults (env_with (table_of tree) tree [])) 18 tree.classes ≡ []) (clear : Clear (Breaks tree))
     (agrees : Agrees (env_with (table_of tree) tree constants) (program_with (table_of tree) tree constants)) where
   abbrev table : ClassTable
   table = table_of tree

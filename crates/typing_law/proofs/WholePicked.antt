@@ -17,7 +17,7 @@ use Rattle.java_names.specs.Chosen.{picked, first_picked, methods_at}
 use Rattle.java_names.specs.Numbers.{first_numbers}
 use Rattle.java_names.specs.Selectors.{same_selector, selector_of}
 use Rattle.java_names.specs.Symbols.{class_symbol, method_symbol, method_symbols}
-use Rattle.java_exprs.specs.declared.literal.Literal.{Literal}
+use Rattle.primitive_operators.specs.declared.scalar.Scalar.{Scalar}
 use Rattle.java_types.specs.Declarations.{declaration_faults}
 use Rattle.java_types.specs.Files.{of_members}
 use Rattle.typing_law.proofs.Tables.{numbers_at, env_with, class_symbol_at}
@@ -117,7 +117,7 @@ module _ (names : List Name) (all : List Selector) (owner : ℕ) (k : ℕ) where
       nothing None = refl
       nothing (Some s) = neither (s == k)
 
-module _ (tree : FileTree) (constants : List (ℕ × Option Literal)) (none : of_members (declaration_faults (env_with (table_of tree) tree [])) 18 tree.classes ≡ []) where
+module _ (tree : FileTree) (constants : List (ℕ × Option Scalar)) (none : of_members (declaration_faults (env_with (table_of tree) tree [])) 18 tree.classes ≡ []) where
   abbrev table : ClassTable
   table = table_of tree
 

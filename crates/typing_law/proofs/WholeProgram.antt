@@ -15,7 +15,7 @@ use Rattle.class_table.specs.Faults.{Clear}
 use Rattle.class_table.specs.Rules.{Breaks}
 use Rattle.class_table.specs.Table.{table_of}
 use Rattle.class_table.specs.TableFacts.{IsTable}
-use Rattle.java_exprs.specs.declared.literal.Literal.{Literal}
+use Rattle.primitive_operators.specs.declared.scalar.Scalar.{Scalar}
 use Rattle.java_types.specs.Declarations.{declaration_faults}
 use Rattle.java_types.specs.Files.{of_members, of_made, member_faults, made_faults, core_class, declared_faults, body_faults, then_faults, faults_of, env_of, reading_of, program_of}
 use Rattle.typing_law.specs.Agrees.{Agrees}
@@ -31,7 +31,7 @@ use Rattle.typing_law.proofs.WholeMembers.{methods_typed, makers_typed}
 use Rattle.typing_law.proofs.WholeMain.{main_there}
 use Rattle.typing_law.proofs.WholeChosen.{all_chosen, overrides_right, message_right}
 
-module _ (tree : FileTree) (constants : List (ℕ × Option Literal)) (is_table : IsTable (table_of tree)) (clear : Clear (Breaks tree))
+module _ (tree : FileTree) (constants : List (ℕ × Option Scalar)) (is_table : IsTable (table_of tree)) (clear : Clear (Breaks tree))
     (none : of_members (declaration_faults (env_with (table_of tree) tree [])) 18 tree.classes ≡ [])
     (bodies : of_members (member_faults (env_with (table_of tree) tree constants)) 18 tree.classes ≡ [])
     (made : of_made (made_faults (env_with (table_of tree) tree constants)) 18 tree.classes ≡ [])

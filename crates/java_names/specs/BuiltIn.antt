@@ -2,9 +2,12 @@
 use Rattle.std.specs.Prelude.{ℕ, Bool, false, not, List, [], ◌∷◌, Option, Some, None, nat_lt, if◌then◌else◌}
 use Rattle.class_table.specs.declared.row.MakerRow.{MakerRow}
 
--- the classes with these numbers are built in
+-- the number of the first class of a file: the built-in classes have the numbers before it
+abbrev pub first_class : ℕ
+first_class = 18
+
 abbrev pub is_built_in : ℕ → Bool
-is_built_in c = nat_lt c 18
+is_built_in c = nat_lt c first_class
 
 -- class c is one of the file, and declares no constructor
 abbrev pub needs_maker : ℕ → List MakerRow → Bool

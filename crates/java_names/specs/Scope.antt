@@ -2,6 +2,9 @@
 use Rattle.std.specs.Prelude.{ℕ, Bool, [], ◌∷◌, ◌++◌, length, take, Option, Some, None}
 use Rattle.std.specs.Map.{lookup}
 use Rattle.core_tree.specs.declared.ty.Ty.{Ty}
+use Rattle.core_tree.specs.declared.ty.Ty.TheVariants as ty
+use Rattle.java_syntax.specs.declared.class.MethodTree.{MethodTree}
+use Rattle.class_table.specs.Members.{is_static}
 use Rattle.class_table.specs.Names.{Name, same_name}
 use Rattle.java_names.specs.declared.symbol.FieldSymbol.{FieldSymbol}
 use Rattle.java_names.specs.declared.symbol.Symbols.{Symbols}
@@ -10,6 +13,7 @@ use Rattle.java_names.specs.declared.scope.Mark.{Mark}
 use Rattle.java_names.specs.declared.scope.Meaning.{Meaning}
 use Rattle.java_names.specs.declared.scope.Meaning.TheVariants as meaning
 use Rattle.java_names.specs.Lookups.{class_number, field_of}
+use Rattle.java_names.specs.Types.{answer_type}
 
 -- the number of the local of that name in scope
 abbrev pub local_of : Scope → Name → Option ℕ
@@ -18,6 +22,18 @@ local_of scope name = lookup (same_name name) scope.locals
 -- the scope at the beginning of a body without parameters
 abbrev pub first_scope : ℕ → Bool → Ty → Scope
 first_scope class is_static answer = record { class = class; is_static = is_static; answer = answer; in_loop = Bool.false; locals = []; slots = [] }
+
+-- the scope of a method's body, before its parameters
+abbrev pub method_scope : Symbols → ℕ → MethodTree → Scope
+method_scope s c m = first_scope c (is_static m.mods) (answer_type s.names m.answer)
+
+-- the scope of a constructor's body, before its parameters, and of an instance field's initialiser
+abbrev pub maker_scope : ℕ → Scope
+maker_scope c = first_scope c Bool.false ty.Void
+
+-- the scope of a constant's initialiser
+abbrev pub constant_scope : ℕ → Scope
+constant_scope c = first_scope c Bool.true ty.Void
 
 -- the scope behind a declaration: the local gets the next number, and numbers are never used again
 unfoldable pub declared : Scope → Name → Ty → Scope

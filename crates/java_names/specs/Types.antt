@@ -54,6 +54,10 @@ declared_type names tree = unwrap_or (type_of names tree) ty.Void
 abbrev pub declared_types : List Name → List TypeTree → List Ty
 declared_types names trees = map (declared_type names) trees
 
+-- the type of what a catch clause of this class takes; `Void` where the name is unknown, which breaks rule 10
+abbrev pub exception_type : List Name → Name → Ty
+exception_type names name = option_map_or ty.Class (number_of names name) ty.Void
+
 -- the type of a result
 abbrev pub answer_type : List Name → Option TypeTree → Ty
 answer_type names answer = option_map_or (declared_type names) answer ty.Void

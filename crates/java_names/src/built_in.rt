@@ -5,14 +5,14 @@ ghost use Rattle.java_names.specs.BuiltIn as spec;
 
 use class_table::MakerRow;
 
-/// How many classes are built in.
-const BUILT_IN: u32 = 18;
+/// The number of the first class of a file: the built-in classes have the numbers before it.
+pub const FIRST_CLASS: u32 = 18;
 
 /// Whether class number `class` is built in.
 pub fn is_built_in(class: u32) -> bool
     ensures { result ≡ spec.is_built_in class }
 {
-    class < BUILT_IN
+    class < FIRST_CLASS
 }
 
 /// Whether class number `class` is one of the file, and declares no constructor.

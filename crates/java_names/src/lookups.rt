@@ -64,6 +64,16 @@ impl Symbols {
         at(self.classes.as_slice(), class as usize)
     }
 
+    /// The number of the superclass of class number `class`; `None` of `Object`, and where there is no such class (JLS 8.1.4).
+    pub fn superclass(&self, class: u32) -> Option<u32>
+        ensures { result ≡ spec.parent_of self.now class }
+    {
+        match self.class(class) {
+            Some(symbol) => symbol.parent,
+            None => None,
+        }
+    }
+
     /// The numbers of a class, its superclass, and so on to `Object`; none where there is no such class (JLS 8.1.4).
     pub fn line(&self, class: u32) -> &[u32]
         ensures { result.now ≡ spec.line_of self.now class }

@@ -29,6 +29,13 @@ pub fn sum(number: u32, count: usize) -> Result<u32, AllocError>
     Ok(number + count as u32)
 }
 
+/// The number after this one. `AllocError` where there is none.
+pub fn following(number: u32) -> Result<u32, AllocError>
+    ensures { IfOk result (λ next. next ≡ number + 1) }
+{
+    sum(number, 1)
+}
+
 /// How many constructors are made for class number `class`.
 fn made_for(class: u32, row: &ClassRow) -> usize
     ensures { result ≡ spec.made_for class row.now }

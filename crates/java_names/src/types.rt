@@ -164,3 +164,17 @@ pub fn answer_type(
         None => Shared::new(alloc, Ty::Void),
     }
 }
+
+/// The type of what a catch clause takes whose class has this name; `Void` where that is unknown (JLS 14.20).
+pub fn exception_type(
+    alloc: Global,
+    names: &Numbering<Name>,
+    name: &Name,
+) -> Result<Shared<Ty>, AllocError>
+    ensures { IfOk result (λ t. t ≡ spec.exception_type names.now name.now) }
+{
+    match names.number(name) {
+        Some(class) => Shared::new(alloc, Ty::Class(class)),
+        None => Shared::new(alloc, Ty::Void),
+    }
+}

@@ -4,7 +4,8 @@ ghost use Rattle.std.specs.Prelude.{◌≡◌, [], ◌∷◌, ◌++◌, IfOk, On
 ghost use Rattle.std.specs.List.{list_any};
 ghost use Rattle.throw_check.specs.Classes as spec;
 ghost use Rattle.throw_check.specs.Points.{points_at};
-ghost use Rattle.throw_check.specs.Walks.{Handles, faults_left, inside_try, outside_try, is_broken, is_handled};
+ghost use Rattle.java_names.specs.Refusals.{Allows};
+ghost use Rattle.throw_check.specs.Walks.{faults_left, inside_try, outside_try, is_broken, is_handled};
 
 use java_names::{Numbering, Symbols};
 use java_syntax::{CheckError, Fault};
@@ -84,14 +85,14 @@ impl Handlers {
         classes.iter().any(|class| self.is_broken(symbols, *class))
     }
 
-    /// Sees that exceptions of these classes are handled, which may be thrown at token `at`. It takes time in proportion to
+    /// Checks that exceptions of these classes are handled, which may be thrown at token `at`. It takes time in proportion to
     /// their number, the number of `try` around the place, and the depth of inheritance.
     ///
     /// # Errors
     /// `Fault` of rule 23 at the token, where one of them is checked and neither caught nor declared.
     #[tactic(auto, using(crate::proofs::LeftLemmas::left_at))]
     pub fn check(&self, symbols: &Symbols, classes: &[u32], at: u32) -> Result<(), CheckError>
-        ensures { Handles (faults_left symbols.now self.now (points_at at classes.now)) result }
+        ensures { Allows (faults_left symbols.now self.now (points_at at classes.now)) result }
     {
         if self.is_broken_by(symbols, classes) {
             return Err(CheckError::Fault(Fault { rule: 23, at }));

@@ -1,14 +1,13 @@
 //! Locals, declared and gone again (JLS 6.3, 14.4).
 
 ghost use Rattle.std.specs.Prelude.{◌≡◌, IfOk, OnOk, take};
-ghost use Rattle.java_statements.specs.Statements.{caught_type, local_type};
-ghost use Rattle.throw_check.specs.Points.{types_env};
+ghost use Rattle.java_names.specs.Types as types;
 ghost use Rattle.throw_check.specs.Statements.{with_local};
 ghost use Rattle.throw_check.specs.Walks as spec;
 
 use class_table::Shared;
 use core_tree::Ty;
-use java_names::{Mark, Scope, Symbols, declared_type};
+use java_names::{Mark, Scope, Symbols, declared_type, exception_type};
 use java_syntax::{Ident, LocalTree};
 use sqlite_items::Items;
 use std::alloc::{AllocError, Global};
@@ -33,20 +32,10 @@ pub fn declare_local(
     scope: &mut Scope,
     local: &LocalTree,
 ) -> Result<(), AllocError>
-    ensures { OnOk result (scope.new ≡ with_local scope.old local.now.name (local_type (types_env symbols.now) local.now)) }
+    ensures { OnOk result (scope.new ≡ with_local scope.old local.now.name (types.declared_type symbols.now.names local.now.ty)) }
 {
     let ty = declared_type(alloc, &symbols.names, &local.ty)?;
     declare(scope, &local.name, ty)
-}
-
-// The type of the local of a catch clause; `Void` where its class is unknown.
-fn caught(alloc: Global, symbols: &Symbols, class: &Ident) -> Result<Shared<Ty>, AllocError>
-    ensures { IfOk result (λ ty. ty ≡ caught_type (types_env symbols.now) class.now) }
-{
-    match symbols.class_number(&class.name) {
-        Some(class) => Shared::new(alloc, Ty::Class(class)),
-        None => Shared::new(alloc, Ty::Void),
-    }
 }
 
 /// Declares the local of a catch clause for this class. `AllocError` as `declare`.
@@ -57,9 +46,9 @@ pub fn declare_caught(
     name: &Ident,
     class: &Ident,
 ) -> Result<(), AllocError>
-    ensures { OnOk result (scope.new ≡ with_local scope.old name.now (caught_type (types_env symbols.now) class.now)) }
+    ensures { OnOk result (scope.new ≡ with_local scope.old name.now (types.exception_type symbols.now.names class.now.name)) }
 {
-    let ty = caught(alloc, symbols, class)?;
+    let ty = exception_type(alloc, &symbols.names, &class.name)?;
     declare(scope, name, ty)
 }
 

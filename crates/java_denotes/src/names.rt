@@ -2,24 +2,25 @@
 
 ghost use Rattle.std.specs.Prelude.{◌≡◌, IfOk, Some, option_and_then};
 ghost use Rattle.std.specs.Option.{option_copied};
-ghost use Rattle.java_exprs.specs.Denotes as spec;
-ghost use Rattle.java_exprs.specs.Lookups as names;
-ghost use Rattle.throw_check.specs.Points.{types_env};
-ghost use Rattle.throw_check.specs.Walks.{field_denotes, found_through, member_or_class_denotes, seen};
+ghost use Rattle.java_denotes.specs.Denotes as spec;
+ghost use Rattle.java_denotes.specs.Known.{of_known};
+ghost use Rattle.java_denotes.specs.Lookups as names;
+ghost use Rattle.java_denotes.specs.Members.{found_through};
 
+use crate::denotation::Denotation;
+use crate::forms::{class_of, is_void};
 use crate::known::{Known, copy};
 use crate::library::{array_field, is_system, library_field};
+use crate::through::Through;
 use core_tree::Ty;
-use java_exprs::forms::{class_of, is_void};
-use java_exprs::{Denotation, Through};
 use java_names::{FieldSymbol, Scope, Symbols};
 use java_syntax::Ident;
 use java_tokens::Name;
 use sqlite_items::at;
 use std::alloc::{AllocError, Global};
 
-// A variable of this type; nothing is known of one whose type has an unknown name.
-fn variable(alloc: Global, ty: &Ty) -> Result<Option<Denotation>, AllocError>
+/// A variable of this type; nothing is known of one whose type has an unknown name.
+pub fn variable(alloc: Global, ty: &Ty) -> Result<Option<Denotation>, AllocError>
     ensures { IfOk result (λ d. d ≡ names.variable_denotes ty.now) }
 {
     if is_void(ty) {
@@ -28,7 +29,7 @@ fn variable(alloc: Global, ty: &Ty) -> Result<Option<Denotation>, AllocError>
     Ok(Some(Denotation::Value(copy(alloc, ty)?)))
 }
 
-// The local with this number.
+/// The local with this number.
 fn local(alloc: Global, scope: &Scope, number: u32) -> Result<Option<Denotation>, AllocError>
     ensures { IfOk result (λ d. d ≡ names.local_denotes scope.now number) }
 {
@@ -38,9 +39,9 @@ fn local(alloc: Global, scope: &Scope, number: u32) -> Result<Option<Denotation>
     }
 }
 
-// A class, or `System`.
-fn class_or_system(symbols: &Symbols, name: &Name) -> Option<Denotation>
-    ensures { result ≡ spec.class_denotes (types_env symbols.now) name.now }
+/// A class, or `System`.
+pub fn class_or_system(symbols: &Symbols, name: &Name) -> Option<Denotation>
+    ensures { result ≡ spec.class_denotes symbols.now name.now }
 {
     match symbols.class_number(name) {
         Some(class) => Some(Denotation::Class(class)),
@@ -54,14 +55,14 @@ fn class_or_system(symbols: &Symbols, name: &Name) -> Option<Denotation>
     }
 }
 
-// A field or constant of the class, else a class or `System`.
+/// A field or constant of the class, else a class or `System`.
 fn member_or_class(
     alloc: Global,
     symbols: &Symbols,
     scope: &Scope,
     name: &Name,
 ) -> Result<Option<Denotation>, AllocError>
-    ensures { IfOk result (λ d. d ≡ member_or_class_denotes (types_env symbols.now) scope.now name.now) }
+    ensures { IfOk result (λ d. d ≡ spec.member_or_class symbols.now scope.now.class name.now) }
 {
     match symbols.field(scope.class, name) {
         Some(field) => variable(alloc, field.ty.get()),
@@ -77,7 +78,7 @@ pub fn name(
     scope: &Scope,
     x: &Ident,
 ) -> Result<Option<Denotation>, AllocError>
-    ensures { IfOk result (λ d. d ≡ spec.name_denotes (types_env symbols.now) scope.now x.now) }
+    ensures { IfOk result (λ d. d ≡ spec.name_denotes symbols.now scope.now x.now) }
 {
     match scope.local(&x.name) {
         Some(number) => local(alloc, scope, number),
@@ -85,14 +86,14 @@ pub fn name(
     }
 }
 
-// The field or constant of that name in a class; behind an object only an instance field.
-fn found<'a>(
+/// The field or constant of that name in a class; behind an object only an instance field.
+pub fn found<'a>(
     symbols: &'a Symbols,
     through: Through,
     class: u32,
     name: &Name,
 ) -> Option<&'a FieldSymbol>
-    ensures { option_copied result ≡ found_through (types_env symbols.now) through class name.now }
+    ensures { option_copied result ≡ found_through symbols.now through class name.now }
 {
     match symbols.field(class, name) {
         Some(field) => {
@@ -106,7 +107,7 @@ fn found<'a>(
     }
 }
 
-// A field or constant behind a class or an object of it.
+/// A field or constant behind a class or an object of it.
 fn member(
     alloc: Global,
     symbols: &Symbols,
@@ -114,7 +115,7 @@ fn member(
     class: u32,
     name: &Name,
 ) -> Result<Option<Denotation>, AllocError>
-    ensures { IfOk result (λ d. d ≡ option_and_then (λ m. names.variable_denotes m.ty) (found_through (types_env symbols.now) through class name.now)) }
+    ensures { IfOk result (λ d. d ≡ option_and_then (λ m. names.variable_denotes m.ty) (found_through symbols.now through class name.now)) }
 {
     match found(symbols, through, class, name) {
         Some(field) => variable(alloc, field.ty.get()),
@@ -122,7 +123,7 @@ fn member(
     }
 }
 
-// A name behind a value.
+/// A name behind a value.
 fn behind_value(
     alloc: Global,
     symbols: &Symbols,
@@ -130,7 +131,7 @@ fn behind_value(
     ty: &Ty,
     f: &Ident,
 ) -> Result<Option<Denotation>, AllocError>
-    ensures { IfOk result (λ d. d ≡ field_denotes (types_env symbols.now) (seen o.now) f.now (Some (Denotation.Value ty.now))) }
+    ensures { IfOk result (λ d. d ≡ spec.field_denotes of_known symbols.now o.now f.now (Some (Denotation.Value ty.now))) }
 {
     match class_of(ty) {
         Some(class) => member(alloc, symbols, Through::Object, class, &f.name),
@@ -146,7 +147,7 @@ pub fn field(
     o: &Known,
     f: &Ident,
 ) -> Result<Option<Denotation>, AllocError>
-    ensures { IfOk result (λ d. d ≡ field_denotes (types_env symbols.now) (seen o.now) f.now o.now.denotes) }
+    ensures { IfOk result (λ d. d ≡ spec.field_denotes of_known symbols.now o.now f.now o.now.denotes) }
 {
     match &o.denotes {
         Some(Denotation::Class(class)) => member(alloc, symbols, Through::Class, *class, &f.name),

@@ -6,7 +6,7 @@ use Rattle.java_syntax.specs.declared.statement.Stmt.{Stmt, out-Stmt}
 use Rattle.java_syntax.specs.declared.statement.Stmt.TheVariants as tree
 use Rattle.java_syntax.specs.declared.statement.Stmt.TheOpen.{Stmt-F}
 use Rattle.java_syntax.specs.declared.statement.Stmt.TheViews.{roll-Stmt, roll-out-Stmt, out-roll-Stmt}
-use Rattle.java_types.specs.Bodies.{beginning, beginning_node, implicit}
+use Rattle.java_names.specs.Beginnings.{beginning, beginning_node, implicit}
 
 -- with `super(..)`
 pub begins_with : (at : ℕ) (s : Stmt) (rest : List Stmt) (word : ℕ) (given : List Expr) → s ≡ tree.Super word given

@@ -5,16 +5,15 @@ ghost use Rattle.std.specs.Option.{option_copied};
 ghost use Rattle.core_tree.specs.Types as of;
 ghost use Rattle.core_tree.specs.declared.ty.Ty.TheViews as view;
 ghost use Rattle.java_names.specs.Types as types;
-ghost use Rattle.java_exprs.specs.Attr.{value_type};
-ghost use Rattle.java_exprs.specs.Denotes as spec;
-ghost use Rattle.throw_check.specs.Points.{types_env};
-ghost use Rattle.throw_check.specs.Walks.{on_side};
+ghost use Rattle.java_denotes.specs.Denotes as spec;
+ghost use Rattle.java_denotes.specs.Members.{value_type};
+ghost use Rattle.java_denotes.specs.Sides.{on_side};
 
+use crate::assignability::is_assignable;
+use crate::denotation::Denotation;
+use crate::forms::{elements_of, is_boolean, is_string};
 use crate::known::{Known, copy};
 use core_tree::Ty;
-use java_exprs::Denotation;
-use java_exprs::assignability::is_assignable;
-use java_exprs::forms::{elements_of, is_boolean, is_string};
 use java_names::{Symbols, arrays, resolve_base, type_of};
 use java_syntax::{BaseType, BinaryOp, CheckError, TypeTree, UnaryOp};
 use sqlite_items::Boxed;
@@ -35,7 +34,7 @@ pub fn spelled(
 }
 
 /// A new array whose elements have this base and so many pairs of brackets.
-#[tactic(auto, using(crate::proofs::TypeLemmas::no_base))]
+#[tactic(auto, using(crate::proofs::BaseLemmas::no_base))]
 pub fn array(
     alloc: Global,
     symbols: &Symbols,
@@ -54,7 +53,7 @@ pub fn array(
     }
 }
 
-// A value of this type, where there is one.
+/// A value of this type, where there is one.
 fn value(alloc: Global, ty: Option<&Ty>) -> Result<Option<Denotation>, AllocError>
     ensures { IfOk result (λ d. d ≡ spec.value (option_copied ty.entry)) }
 {
@@ -64,7 +63,7 @@ fn value(alloc: Global, ty: Option<&Ty>) -> Result<Option<Denotation>, AllocErro
     }
 }
 
-// The type of the elements of an array.
+/// The type of the elements of an array.
 fn elements(a: &Known) -> Option<&Ty>
     ensures { option_copied result ≡ option_and_then of.elements_of (value_type a.now.denotes) }
 {
@@ -81,7 +80,7 @@ pub fn element(alloc: Global, a: &Known) -> Result<Option<Denotation>, AllocErro
     value(alloc, elements(a))
 }
 
-// Whether the type is that of a String.
+/// Whether the type is that of a String.
 fn is_text(ty: Option<&Ty>) -> bool
     ensures { result ≡ spec.is_text (option_copied ty.entry) }
 {
@@ -91,7 +90,7 @@ fn is_text(ty: Option<&Ty>) -> bool
     }
 }
 
-// The type of `&`, `|` and `^`.
+/// The type of `&`, `|` and `^`.
 fn bitwise_type(l: Option<&Ty>) -> Option<Ty>
     ensures { result ≡ spec.bitwise_type (option_copied l.entry) }
 {
@@ -107,7 +106,7 @@ fn bitwise_type(l: Option<&Ty>) -> Option<Ty>
     }
 }
 
-// The type of `+`.
+/// The type of `+`.
 fn sum_type(l: Option<&Ty>, r: Option<&Ty>) -> Option<Ty>
     ensures { result ≡ spec.sum_type (option_copied l.entry) (option_copied r.entry) }
 {
@@ -123,7 +122,7 @@ fn sum_type(l: Option<&Ty>, r: Option<&Ty>) -> Option<Ty>
     }
 }
 
-// The type of an operator's result.
+/// The type of an operator's result.
 fn binary_type(op: BinaryOp, l: Option<&Ty>, r: Option<&Ty>) -> Option<Ty>
     ensures { result ≡ spec.binary_type op (option_copied l.entry) (option_copied r.entry) }
 {
@@ -158,9 +157,9 @@ pub enum Side {
     Second,
 }
 
-// The side of the wider of two types; `None` where neither can be assigned to the other.
+/// The side of the wider of two types; `None` where neither can be assigned to the other.
 fn wider(symbols: &Symbols, a: Option<&Ty>, b: Option<&Ty>) -> Option<Side>
-    ensures { option_and_then (λ side. on_side side (option_copied a.entry) (option_copied b.entry)) result ≡ spec.choice_type (types_env symbols.now) (option_copied a.entry) (option_copied b.entry) }
+    ensures { option_and_then (λ side. on_side side (option_copied a.entry) (option_copied b.entry)) result ≡ spec.choice_type symbols.now (option_copied a.entry) (option_copied b.entry) }
 {
     match a {
         Some(a) => match b {
@@ -181,7 +180,7 @@ fn wider(symbols: &Symbols, a: Option<&Ty>, b: Option<&Ty>) -> Option<Side>
 
 /// A conditional with these operands behind `?`.
 pub fn conditional(symbols: &Symbols, a: Known, b: Known) -> Option<Denotation>
-    ensures { result ≡ spec.value (spec.choice_type (types_env symbols.now) (value_type a.denotes) (value_type b.denotes)) }
+    ensures { result ≡ spec.value (spec.choice_type symbols.now (value_type a.denotes) (value_type b.denotes)) }
 {
     match wider(symbols, a.value_type(), b.value_type()) {
         Some(Side::First) => a.into_value(),

@@ -1,12 +1,12 @@
-//! What a walk knows of an expression.
+//! What is known of an expression by symbols and scope alone.
 
 ghost use Rattle.std.specs.Prelude.{◌≡◌, IfOk, Some};
 ghost use Rattle.std.specs.Option.{option_copied};
-ghost use Rattle.java_exprs.specs.Attr as of;
-ghost use Rattle.java_exprs.specs.Denotes as denotes;
+ghost use Rattle.java_denotes.specs.Members as of;
+ghost use Rattle.java_denotes.specs.Denotes as denotes;
 
+use crate::denotation::Denotation;
 use core_tree::Ty;
-use java_exprs::Denotation;
 use std::alloc::{AllocError, Global};
 
 /// What is known of an expression.

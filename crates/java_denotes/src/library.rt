@@ -2,55 +2,55 @@
 
 ghost use Rattle.std.specs.Prelude.{◌≡◌, Some, map};
 ghost use Rattle.class_table.specs.Names.{same_name};
-ghost use Rattle.java_exprs.specs.Checks.{attr};
-ghost use Rattle.java_exprs.specs.Denotes as spec;
-ghost use Rattle.throw_check.specs.Points.{types_env};
+ghost use Rattle.java_denotes.specs.Denotes as spec;
+ghost use Rattle.java_denotes.specs.Known.{known_of};
+ghost use Rattle.java_denotes.specs.Library as names;
 
+use crate::denotation::{Denotation, Printing};
+use crate::forms::{is_array, is_string};
 use core_tree::Ty;
-use java_exprs::forms::{is_array, is_string};
-use java_exprs::{Denotation, Printing};
 use java_names::{Scope, Symbols};
 use java_syntax::Expr;
 use java_tokens::Name;
 
 /// Whether a name is `System`.
 pub fn is_system(name: &Name) -> bool
-    ensures { result ≡ same_name name.now spec.system_name }
+    ensures { result ≡ same_name name.now names.system_name }
 {
     name.characters() == ['S', 'y', 's', 't', 'e', 'm'].as_slice()
 }
 
-// Whether a name is `out`.
-fn is_out(name: &Name) -> bool
-    ensures { result ≡ same_name name.now spec.out_name }
+/// Whether a name is `out`.
+pub fn is_out(name: &Name) -> bool
+    ensures { result ≡ same_name name.now names.out_name }
 {
     name.characters() == ['o', 'u', 't'].as_slice()
 }
 
-// Whether a name is `println`.
-fn is_println(name: &Name) -> bool
-    ensures { result ≡ same_name name.now spec.println_name }
+/// Whether a name is `println`.
+pub fn is_println(name: &Name) -> bool
+    ensures { result ≡ same_name name.now names.println_name }
 {
     name.characters() == ['p', 'r', 'i', 'n', 't', 'l', 'n'].as_slice()
 }
 
-// Whether a name is `print` or `println`.
-fn is_print(name: &Name) -> bool
-    ensures { result ≡ spec.is_print name.now }
+/// Whether a name is `print` or `println`.
+pub fn is_print(name: &Name) -> bool
+    ensures { result ≡ names.is_print name.now }
 {
     name.characters() == ['p', 'r', 'i', 'n', 't'].as_slice() || is_println(name)
 }
 
-// Whether a name is `equals`.
-fn is_equals(name: &Name) -> bool
-    ensures { result ≡ same_name name.now spec.equals_name }
+/// Whether a name is `equals`.
+pub fn is_equals(name: &Name) -> bool
+    ensures { result ≡ same_name name.now names.equals_name }
 {
     name.characters() == ['e', 'q', 'u', 'a', 'l', 's'].as_slice()
 }
 
-// Whether a name is `length`.
-fn is_length(name: &Name) -> bool
-    ensures { result ≡ same_name name.now spec.length_name }
+/// Whether a name is `length`.
+pub fn is_length(name: &Name) -> bool
+    ensures { result ≡ same_name name.now names.length_name }
 {
     name.characters() == ['l', 'e', 'n', 'g', 't', 'h'].as_slice()
 }
@@ -83,8 +83,8 @@ pub fn library_field(name: &Name, object: &Option<Denotation>) -> Option<Denotat
     }
 }
 
-// A method of a String.
-fn text_method(name: &Name) -> Option<Denotation>
+/// A method of a String.
+pub fn text_method(name: &Name) -> Option<Denotation>
     ensures { result ≡ spec.text_method name.now }
 {
     if is_equals(name) {
@@ -96,14 +96,14 @@ fn text_method(name: &Name) -> Option<Denotation>
     }
 }
 
-// A print.
+/// A print.
 fn output_method(
     symbols: &Symbols,
     scope: &Scope,
     name: &Name,
     arguments: &[Expr],
 ) -> Option<Denotation>
-    ensures { result ≡ spec.library_method name.now (map (attr (types_env symbols.now) scope.now) arguments.now) (Some Denotation.Output) }
+    ensures { result ≡ spec.library_method name.now (map (known_of symbols.now scope.now) arguments.now) (Some Denotation.Output) }
 {
     if !is_print(name) {
         return None;
@@ -122,7 +122,7 @@ pub fn library_method(
     arguments: &[Expr],
     object: &Option<Denotation>,
 ) -> Option<Denotation>
-    ensures { result ≡ spec.library_method name.now (map (attr (types_env symbols.now) scope.now) arguments.now) object.now }
+    ensures { result ≡ spec.library_method name.now (map (known_of symbols.now scope.now) arguments.now) object.now }
 {
     match object {
         Some(Denotation::Output) => output_method(symbols, scope, name, arguments),

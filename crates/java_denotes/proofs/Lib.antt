@@ -1,0 +1,5 @@
+pub mod TypeForms
+pub mod TypeLemmas
+pub mod BaseLemmas
+pub mod CallLemmas
+pub mod KnownLemmas

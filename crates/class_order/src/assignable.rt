@@ -8,8 +8,8 @@ use core_tree::{BuiltIn, Class, Ty};
 use heap_arena::Kind;
 use sqlite_items::Items;
 
-/// Whether a value of the first type may be assigned to a variable of the second (JLS 5.2): a type to itself, a class to
-/// its superclasses, null to String, classes and arrays, an array to Object and to an array whose elements it fits.
+/// Whether a value of the first type may be assigned to a variable of the second (JLS 5.2): a type to itself, a class
+/// to its superclasses, null to String, classes and arrays, an array to Object and to an array whose elements it fits.
 pub fn is_assignable(classes: &Items<Class>, from: &Ty, to: &Ty) -> bool
     ensures { result ≡ is_assignable classes.now from.now to.now }
 {

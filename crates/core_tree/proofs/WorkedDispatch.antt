@@ -1,5 +1,5 @@
--- Two classes, the second below the first and with a method of its own in place of the inherited one: the program is well
--- typed, and each of a few changes makes it ill typed.
+-- Two classes, the second below the first and with a method of its own in place of the inherited one: the program is
+-- well typed, and each of a few changes makes it ill typed.
 use Rattle.std.proofs.Common.{◌≡◌, ℕ, pos, Bool, IsTrue, List, [], ◌∷◌, ◌++◌, Option, Some, None, true, false, codes, refl, arith, length, map, ap, slice_get}
 use denote.Hole.Carrier.{out, shown, hidden}
 use Rattle.std.specs.Int.{int_wrap}

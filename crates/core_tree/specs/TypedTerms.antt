@@ -1,5 +1,5 @@
--- Which terms of contracts are well typed. A term is a set, a whole number or a formula; its names are gone, but for those
--- of fields.
+-- Which terms of contracts are well typed. A term is a set, a whole number or a formula; its names are gone, but for
+-- those of fields.
 use Rattle.std.specs.Prelude.{ℕ, suc, ℤ, pos, ◌^◌, Bool, true, false, ◌&&◌, nat_eq, nat_lt, int_le, List, length, slice_get, is_some}
 use Rattle.std.specs.List.{list_all, filter, flat_map}
 use Rattle.std.specs.Cmp.Lexicographic.{pointwise}

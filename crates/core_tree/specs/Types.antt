@@ -9,7 +9,8 @@ use Rattle.core_tree.specs.declared.program.Class.{Class}
 
 -- ---- classes
 
--- a class and its superclasses, from it upward (JLS 8.1.4), where at most that many steps lead to one without a superclass
+-- a class and its superclasses, from it upward (JLS 8.1.4), where at most that many steps lead to one without a
+-- superclass
 unfoldable pub line_within : ℕ → List Class → ℕ → Option (List ℕ)
 line_within zero classes c = None
 line_within (suc steps) classes c = option_and_then (λ class.
@@ -62,9 +63,9 @@ assignable_node below (Ty-F.Array fits) to = option_map_or (λ d. d == 0) (class
 assignable_node below Ty-F.Null to = is_null to || is_string to || is_object to
 assignable_node below Ty-F.Void to = false
 
--- a value of the first type may be assigned to a variable of the second (JLS 5.2), by a test of two classes, that the first
--- is the second or below it: a type to itself, a class to its superclasses, null to String, classes and arrays, an array to
--- Object and to an array whose elements it fits
+-- a value of the first type may be assigned to a variable of the second (JLS 5.2), by a test of two classes, that the
+-- first is the second or below it: a type to itself, a class to its superclasses, null to String, classes and arrays,
+-- an array to Object and to an array whose elements it fits
 unfoldable pub is_assignable_by : (ℕ → ℕ → Bool) → Ty → Ty → Bool
 is_assignable_by below = fold-Ty (Ty → Bool) (assignable_node below)
 

@@ -75,8 +75,8 @@ chosen_above p class = option_map_or (λ above. above.chosen) (option_and_then (
 abbrev pub is_message_method : Option Method → Bool
 is_message_method m = option_map_or (λ method. same_types method.params [] && is_string method.answer) m true
 
--- a class with its number: it isn't its own ancestor, all but Object have a superclass, it has at most 255 fields, and its
--- fields and methods are in order
+-- a class with its number: it isn't its own ancestor, all but Object have a superclass, it has at most 255 fields, and
+-- its fields and methods are in order
 abbrev pub is_class : Program → ℕ → Class → Bool
 is_class p c class =
     is_some (line_of p.classes c)
@@ -154,8 +154,8 @@ method_scope m = record {
   answer = m.answer;
 }
 
--- a method is of a class of the file, its parameters and locals have types of variables, its result such a type or none,
--- and its body is well typed
+-- a method is of a class of the file, its parameters and locals have types of variables, its result such a type or
+-- none, and its body is well typed
 abbrev pub is_method : Program → Method → Bool
 is_method p m =
     is_of_file p m.owner
@@ -177,8 +177,8 @@ is_parent p s b (parent.Message text) =
 is_parent p s b (parent.Maker k arguments) =
     option_map_or (λ maker. maker.owner == b && all_fit p maker.params (map (type_of p s) arguments)) (slice_get p.makers k) false
 
--- a constructor is of a class of the file, its parameters and locals have types of variables, it runs a constructor of its
--- class's superclass, and its body is well typed
+-- a constructor is of a class of the file, its parameters and locals have types of variables, it runs a constructor of
+-- its class's superclass, and its body is well typed
 abbrev pub is_maker : Program → Maker → Bool
 is_maker p k =
     is_of_file p k.owner

@@ -52,7 +52,7 @@ pub enum Expr {
     Cast(Ty, Boxed<Expr>),
     /// `instanceof`.
     Is(Ty, Boxed<Expr>),
-    /// The texts of two values, one after the other; one of them is a String or null. Both may be null, since a constant
-    /// that is null stands here as the literal.
+    /// The texts of two values, one after the other; one of them is a String or null. Both may be null, since a
+    /// constant that is null stands here as the literal.
     Concat(Boxed<Expr>, Boxed<Expr>),
 }

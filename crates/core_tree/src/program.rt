@@ -68,8 +68,8 @@ pub struct Method {
     pub params: Items<Ty>,
     /// The type of its result, or `Void`.
     pub answer: Ty,
-    /// The types of its other locals, declared ones and `catch` parameters, in text order. A local's number is its place
-    /// among the parameters and these.
+    /// The types of its other locals, declared ones and `catch` parameters, in text order. A local's number is its
+    /// place among the parameters and these.
     pub locals: Items<Ty>,
     pub body: Items<Stmt>,
     /// The contract that its declaration states. An overriding method has only its own.

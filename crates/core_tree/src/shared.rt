@@ -19,7 +19,7 @@ impl<T> Model for Shared<T> {
 }
 
 impl<T: Drop> Shared<T> {
-    /// The value, with one owner. `AllocError` where there is no memory left.
+    /// The value, with one owner. `AllocError` where memory runs out.
     pub fn new(alloc: Global, value: T) -> Result<Shared<T>, AllocError>
         ensures { IfOk result (λ shared. shared ≡ value) }
     {
@@ -35,7 +35,7 @@ impl<T: Drop> Shared<T> {
         self.inner.as_ref()
     }
 
-    /// One owner more of the same value, which is not copied. `AllocError` where there is no memory left.
+    /// One owner more of the same value, which is not copied. `AllocError` where memory runs out.
     pub fn share(&self) -> Result<Shared<T>, AllocError>
         ensures { IfOk result (λ shared. shared ≡ self.now) }
     {

@@ -1,5 +1,5 @@
-//! The terms of contracts. A parameter is named by its number, a field by its name, and a bound variable by its depth, the
-//! number of quantifiers and sums around the one that binds it.
+//! The terms of contracts. A parameter is named by its number, a field by its name, and a bound variable by its depth,
+//! the number of quantifiers and sums around the one that binds it.
 
 use crate::{BinOp, Text};
 use sqlite_items::Boxed;

@@ -17,14 +17,6 @@ use Rattle.interpreter.specs.Functions.{place_value}
 pub inj : {A : Type 0} (a b : A) → Some a ≡ Some b → a ≡ b
 inj a b e = cc
 
-pub and_l : (a b : Bool) → IsTrue (a && b) → IsTrue a
-and_l true b both = refl
-and_l false b both = both
-
-pub and_r : (a b : Bool) → IsTrue (a && b) → IsTrue b
-and_r true b both = both
-and_r false b both = cc
-
 pub reads : (place : Place) (w : World) → read_place place w ≡ found (place_value w.locals w.now place) w
 reads (location.Local at) w = refl
 reads (location.Cell o at) w = refl

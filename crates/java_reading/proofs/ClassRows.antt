@@ -70,7 +70,7 @@ files :
     × Refuses (k.Op o.Semicolon ∷ k.End ∷ [])
     -- no end
     × Refuses ([])
-    -- a token behind the end
+    -- a token after the end
     × Refuses (k.End ∷ k.Op o.Semicolon ∷ [])
     -- `class A { public ; }`
     × Refuses (k.Word w.Class ∷ k.Ident name_upper_a ∷ k.Op o.LeftBrace ∷ k.Word w.Public ∷ k.Op o.Semicolon ∷
@@ -101,12 +101,12 @@ files = (refl, refl, refl, refl, refl, refl, refl)
 
 -- ---- heights
 
--- so many tokens of a kind
+-- that many tokens of a kind
 abbrev so_many : ℕ → TokenKind → List TokenKind → List TokenKind
 so_many zero x xs = xs
 so_many (suc n) x xs = x ∷ so_many n x xs
 
--- `class A { static void m() { int x = (..(1)..); } }` with so many pairs of parentheses
+-- `class A { static void m() { int x = (..(1)..); } }` with that many pairs of parentheses
 abbrev nested : ℕ → List TokenKind
 nested n =
     k.Word w.Class ∷ k.Ident name_upper_a ∷ k.Op o.LeftBrace ∷ k.Word w.Static ∷ k.Word w.Void ∷ k.Ident name_m ∷

@@ -23,7 +23,7 @@ pub record ExprFacts : Type 0 where
   -- A tree takes a token, and has a height.
   pub shorter : (n : ℕ) (e : Expr) (l : ℕ) (xs rest : List Lexeme) → Within n e l xs rest → length rest < length xs
   pub some_height : (n : ℕ) (e : Expr) (l : ℕ) (xs rest : List Lexeme) → Within n e l xs rest → 0 < n
-  -- What it begins with: no `super` and `(`, and no declaration where the token behind it declares nothing.
+  -- What it begins with: no `super` and `(`, and no declaration where the token after it declares nothing.
   pub begins : (n : ℕ) (e : Expr) (l : ℕ) (xs rest : List Lexeme) → Within n e l xs rest → Begins l xs
   pub no_super_call : (n : ℕ) (e : Expr) (l : ℕ) (xs rest : List Lexeme) → Within n e l xs rest → is_super_call xs ≡ false
   pub no_local : (n : ℕ) (e : Expr) (l : ℕ) (xs rest : List Lexeme) → declares rest ≡ false → Within n e l xs rest → is_local xs ≡ false

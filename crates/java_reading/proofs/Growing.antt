@@ -134,12 +134,11 @@ pub fitting : (n m : ℕ) (e : Expr) (l : ℕ) (xs rest : List Lexeme) → expr_
 unfolding Within
 fitting zero m e l xs rest low w = absurd w
 fitting (suc n) zero e l xs rest low w = absurd (omega (arith, as_layer e, node_height (out-Expr e)))
-fitting (suc n) (suc m) e l xs rest low w =
-    (
-      w.0,
-      node_fit m (Within n) (Within m) (fitting n m) (out-Expr e) xs rest (omega (arith, as_layer e)) w.1,
-      omega (arith, as_layer e, node_height (out-Expr e)),
-    )
+fitting (suc n) (suc m) e l xs rest low w = (
+  w.0,
+  node_fit m (Within n) (Within m) (fitting n m) (out-Expr e) xs rest (omega (arith, as_layer e)) w.1,
+  omega (arith, as_layer e, node_height (out-Expr e)),
+)
 
 pub at_height : (n : ℕ) (e : Expr) (l : ℕ) (xs rest : List Lexeme) → Within n e l xs rest → Within (expr_height e) e l xs rest
 at_height n e l xs rest w = fitting n (expr_height e) e l xs rest (omega arith) w

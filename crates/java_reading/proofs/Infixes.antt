@@ -25,7 +25,7 @@ use Rattle.token_reading.proofs.Steps.{Or, found, higher as over_limit}
 use Rattle.java_reading.proofs.Levels.{looser}
 use Rattle.java_reading.proofs.Claims.{Done, done, over, Goes, goes, higher, ArgsDone, args_done, args_over}
 
--- What reading behind an operand of height h comes to.
+-- What reading after an operand of height h comes to.
 pub data Grows (n b h : ℕ) (r : Outcome Tall) (new : Expr) (rest : List Lexeme) : Type 0 where
   grows : (h' : ℕ) → h < h' → h' ≤ suc n → h' ≤ suc b → r ≡ Ok ((new, h'), rest) → Grows n b h r new rest
   outgrows : b < n → r ≡ Err too_high → Grows n b h r new rest

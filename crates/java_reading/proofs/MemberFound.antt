@@ -104,7 +104,7 @@ modifier_it modifier.Private at xs = refl
 modifier_it modifier.Static at xs = refl
 modifier_it modifier.Final at xs = refl
 
--- what may stand behind modifiers: no modifier, and no operator
+-- what may stand after modifiers: no modifier, and no operator
 pub record Declares (xs : List Lexeme) : Type 0 where
   pub no_modifier : modifier_at xs ≡ None
   pub no_operator : (s : Operator) → sees s xs ≡ false
@@ -218,7 +218,7 @@ module _ (facts : ExprFacts) (args_facts : ArgsFacts) (n b : ℕ) where
   initial_no_paren None xs ys rest w u = rw (w, u.1) refl
   initial_no_paren (Some e) xs ys rest w u = rw w.1.1 refl
 
-  -- a method behind its modifiers
+  -- a method after its modifiers
   answered_or : (t : MethodTree) (answer : Option TypeTree) (ys zs us rest : List Lexeme) → t.answer ≡ answer → Answer answer ys zs
       → IsIdent t.name zs us → answer_height answer ≤ n → params_height t.params ≤ n
       → Invocable (Within n) (Stmts (Within n) (UnendedWithin n) (StmtWithin n)) t.params t.throws t.body us rest

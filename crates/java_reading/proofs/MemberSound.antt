@@ -110,7 +110,7 @@ module _ (facts : ExprFacts) (args_facts : ArgsFacts) (n : ℕ) where
   unfolding body
   body_written xs = body_gives facts args_facts n (stmt_sound facts args_facts n) xs
 
-  -- what a constructor has behind its name
+  -- what a constructor has after its name
   abbrev Behind : MakerTree → List Lexeme → List Lexeme → Type 0
   Behind t xs rest = Invocable (Within n) (Stmts (Within n) (UnendedWithin n) (StmtWithin n)) t.params t.throws t.body xs rest
 
@@ -128,7 +128,7 @@ module _ (facts : ExprFacts) (args_facts : ArgsFacts) (n : ℕ) where
   abbrev Whole : Member → List Lexeme → List Lexeme → Type 0
   Whole t xs rest = MemberNode (Within n) (Stmts (Within n) (UnendedWithin n) (StmtWithin n)) t xs rest × (member_type_height t ≤ n)
 
-  -- a member of these modifiers behind them
+  -- a member of these modifiers after them
   abbrev Declared : Mods → Member → List Lexeme → List Lexeme → Type 0
   Declared mods t ys rest = (xs : List Lexeme) → Modifiers mods.words xs ys → Whole t xs rest
 

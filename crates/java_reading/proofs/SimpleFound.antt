@@ -98,7 +98,7 @@ post_of (Expr-F.InstanceOf a t) h = absurd (omega arith)
 post_of (Expr-F.Conditional c a b) h = absurd (omega arith)
 post_of _ h = refl
 
--- ---- what stands behind a declaration or a simple statement
+-- ---- what stands after a declaration or a simple statement
 
 pub record Closes (rest : List Lexeme) : Type 0 where
   pub loose : follows rest ≡ 0

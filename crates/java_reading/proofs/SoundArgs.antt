@@ -12,7 +12,7 @@ use Rattle.token_reading.proofs.Lexemes.{then_length, from_sees, Expected, expec
 use Rattle.java_reading.proofs.Growing.{grown}
 use Rattle.java_reading.proofs.Claims.{Written, Sound, ArgsSound}
 
--- arguments behind those that were found, of which the highest has the height `high`
+-- arguments after those that were found, of which the highest has the height `high`
 abbrev MoreSound : ℕ → List Expr → ℕ → List Lexeme → Outcome Talls → Type 0
 MoreSound b found high xs (Ok p) =
     (a : Expr) × (more : List Expr) × (p.0.0 ≡ found ++ a ∷ more) × (ys : List Lexeme) × Within p.0.1 a 1 xs ys × MoreArgs (Within p.0.1) more ys p.1

@@ -27,7 +27,7 @@ use Rattle.java_reading.proofs.Claims.{Written, Sound, Higher, ArgsSound}
 use Rattle.java_reading.proofs.Written.{wrote, Leads}
 use Rattle.java_reading.proofs.SoundArgs.{args_sound}
 
--- The operand `left` is written from xs to ys, and the token behind it at ys; zs stands behind that.
+-- The operand `left` is written from xs to ys, and the token after it at ys; zs stands after that.
 module _ (b : ℕ) (part : ℕ → Parser Tall) (sound : (l : ℕ) (xs : List Lexeme) → 1 ≤ l → l ≤ 13 → Sound b l xs (part l xs))
     (l : ℕ) (xs ys zs : List Lexeme) (left : Tall) (lw : Written (suc b) l xs left ys) (low : left.1 ≤ b) where
   -- the left operand as one of another level, in a higher tree

@@ -21,7 +21,7 @@ use Rattle.java_reading.proofs.Claims.{Written, Sound, Left, ArgsSound}
 use Rattle.java_reading.proofs.Written.{wrote}
 use Rattle.java_reading.proofs.SoundArgs.{args_sound}
 
--- `xs` begins with the token, and `ys` stands behind it
+-- `xs` begins with the token, and `ys` stands after it
 module _ (b : ℕ) (part : ℕ → Parser Tall) (sound : (l : ℕ) (xs : List Lexeme) → 1 ≤ l → l ≤ 13 → Sound b l xs (part l xs))
     (l at : ℕ) (high : l ≤ 13) (xs ys : List Lexeme) where
   -- ---- `super . x ( .. )`

@@ -23,7 +23,7 @@ use Rattle.java_reading.proofs.Claims.{Written, Sound, Left, ArgsSound}
 use Rattle.java_reading.proofs.Written.{wrote, leaf}
 use Rattle.java_reading.proofs.SoundArgs.{args_sound}
 
--- `xs` begins with the token, and `ys` stands behind it
+-- `xs` begins with the token, and `ys` stands after it
 module _ (b : ℕ) (part : ℕ → Parser Tall) (sound : (l : ℕ) (xs : List Lexeme) → 1 ≤ l → l ≤ 13 → Sound b l xs (part l xs)) where
   -- ---- names and calls
 
@@ -85,14 +85,14 @@ module _ (b : ℕ) (part : ℕ → Parser Tall) (sound : (l : ℕ) (xs : List Le
   cast_test : (l at : ℕ) (t : TypeTree) (xs ys zs : List Lexeme) → l ≤ 13 → xs ≡ lexeme at (k.Op o.LeftParen) ∷ ys → TypeWithin b t ys zs
       → (may : Bool) → castable t ≡ may
       → Left (suc b) l xs (if may then
-        (expect o.RightParen zs >>= (λ _ us. part 13 us >>= (λ a vs. Ok ((e.Cast at t a.0, max (type_height t) a.1 + 1), vs)))) else Err no_tree)
+      (expect o.RightParen zs >>= (λ _ us. part 13 us >>= (λ a vs. Ok ((e.Cast at t a.0, max (type_height t) a.1 + 1), vs)))) else Err no_tree)
   cast_test l at t xs ys zs high is w true may = cast_close l at t xs ys zs high is w may (expect o.RightParen zs) (expected o.RightParen zs)
   cast_test l at t xs ys zs high is w false may = tt
 
   cast_left : (l at : ℕ) (xs ys : List Lexeme) → l ≤ 13 → xs ≡ lexeme at (k.Op o.LeftParen) ∷ ys → (r : Outcome TypeTree)
       → Limited (TypeWithin b) (b < length ys) ys r
       → Left (suc b) l xs (r >>= (λ t zs. if castable t then
-        (expect o.RightParen zs >>= (λ _ us. part 13 us >>= (λ a vs. Ok ((e.Cast at t a.0, max (type_height t) a.1 + 1), vs)))) else Err no_tree))
+      (expect o.RightParen zs >>= (λ _ us. part 13 us >>= (λ a vs. Ok ((e.Cast at t a.0, max (type_height t) a.1 + 1), vs)))) else Err no_tree))
   cast_left l at xs ys high is (Ok p) w = cast_test l at p.0 xs ys p.1 high is w (castable p.0) refl
   cast_left l at xs ys high is (Err no_tree) w = tt
   cast_left l at xs ys high is (Err too_high) w = omega (arith, ap length is)

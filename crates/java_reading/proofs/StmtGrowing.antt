@@ -324,12 +324,11 @@ pub stmt_fit : (n m : ℕ) (in_block : Bool) (t : Stmt) (xs rest : List Lexeme) 
 unfolding StmtWithin
 stmt_fit zero m in_block t xs rest low w = absurd w
 stmt_fit (suc n) zero in_block t xs rest low w = absurd (omega (arith, as_layer t, node_height (out-Stmt t)))
-stmt_fit (suc n) (suc m) in_block t xs rest low w =
-    (
-      w.0,
-      node_fit n m (stmt_fit n m) (out-Stmt t) xs rest (omega (arith, as_layer t)) w.1,
-      omega (arith, as_layer t, node_height (out-Stmt t)),
-    )
+stmt_fit (suc n) (suc m) in_block t xs rest low w = (
+  w.0,
+  node_fit n m (stmt_fit n m) (out-Stmt t) xs rest (omega (arith, as_layer t)) w.1,
+  omega (arith, as_layer t, node_height (out-Stmt t)),
+)
 
 pub body_fit : (n m : ℕ) (all : List Stmt) (xs rest : List Lexeme) → highest (map stmt_height all) ≤ m
     → Stmts (Within n) (UnendedWithin n) (StmtWithin n) all xs rest → Stmts (Within m) (UnendedWithin m) (StmtWithin m) all xs rest

@@ -1,4 +1,4 @@
--- What makes a left operand of what is read, and the token that stands behind one.
+-- What makes a left operand of what is read, and the token that stands after one.
 use Rattle.std.proofs.Common.{◌≡◌, ℕ, suc, ◌+◌, ◌≤◌, ◌<◌, List, [], ◌∷◌, length, Ok, refl, sym, ◌∙◌, ap, subst, arith}
 use Rattle.java_tokens.specs.declared.token.Keyword.{Keyword}
 use Rattle.java_tokens.specs.declared.token.Keyword.TheVariants as w
@@ -36,7 +36,7 @@ pub leaf : (b : ℕ) (f : Layer) (e : Expr) (x : Lexeme) (l : ℕ) (xs rest : Li
 leaf b f e x l xs rest is fit one lv stop w =
     wrote (suc b) 0 1 f e l xs rest is fit (omega arith) (omega arith) (omega (arith, ap length one)) lv stop w
 
--- the token that stands behind an operand
+-- the token that stands after an operand
 abbrev pub Leads : Infix → List Lexeme → Type 0
 Leads (i.Binary op) xs = Then (k.Op (binary_sign op)) xs (next xs)
 Leads i.InstanceOf xs = Then (k.Word w.Instanceof) xs (next xs)

@@ -11,7 +11,7 @@ use Rattle.java_syntax.specs.Height.{expr_height}
 use Rattle.token_reading.specs.Outcome.{no_tree, too_high}
 use Rattle.java_reading.specs.ReadExpr.{follows, reading}
 
--- the expression, of some height, is written at the front, and no token that binds to it stands behind it
+-- the expression, of some height, is written at the front, and no token that binds to it stands after it
 abbrev pub Stands : Expr → List Lexeme → List Lexeme → Type 0
 Stands e xs rest = (n : ℕ) × Within n e 1 xs rest × (follows rest ≡ 0)
 
@@ -53,6 +53,6 @@ abbrev pub BeginsCast : List Lexeme → Type 0
 BeginsCast xs =
     (t : TypeTree) × (ys : List Lexeme) × IsType t xs ys × (zs : List Lexeme) × Then (k.Op o.RightParen) ys zs × (sees_plain zs ≡ true)
 
--- The look-ahead behind a `(` sees just this.
+-- The look-ahead after a `(` sees just this.
 abbrev pub SeesCasts : Type 0
 SeesCasts = (xs : List Lexeme) → (casts xs ≡ true → BeginsCast xs) × (BeginsCast xs → casts xs ≡ true)

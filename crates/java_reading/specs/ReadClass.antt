@@ -47,14 +47,14 @@ abbrev pub on : {A B : Type 0} → Option A → (A → B) → B → B
 on (Some a) some none = some a
 on None some none = none
 
--- all modifiers that stand there, behind those that are found; the number bounds the turns
+-- all modifiers that stand there, after those that are found; the number bounds the turns
 unfoldable pub modifiers : ℕ → List Modifier → Parser (List Modifier)
 modifiers zero found xs = on (modifier_at xs) (λ m. Err no_tree) (Ok (found, xs))
 modifiers (suc n) found xs = on (modifier_at xs) (λ m. modifiers n (found ++ m ∷ []) (next xs)) (Ok (found, xs))
 
 -- ---- exceptions
 
--- names with commas between them, behind those that are found
+-- names with commas between them, after those that are found
 unfoldable pub names : ℕ → List Ident → Parser (List Ident)
 names zero found xs = Err no_tree
 names (suc n) found xs =
@@ -85,34 +85,34 @@ abbrev pub is_maker : List Lexeme → Bool
 is_maker xs = sees_name xs && sees o.LeftParen (next xs)
 
 module _ (n : ℕ) (value : Parser Expr) (body : Parser (List Stmt)) where
-  -- a constructor behind its name
+  -- a constructor after its name
   unfoldable pub maker : Mods → Ident → Parser MakerTree
   maker mods name xs =
       params n xs >>= (λ ps ys. throws ys >>= (λ ts zs. expect o.LeftBrace zs >>= (λ _ us. body us >>= (λ all vs.
       Ok (maker_of mods name ps ts all, vs)))))
 
-  -- a method behind its name, where the same stands
+  -- a method after its name, where the same stands
   unfoldable pub method : Mods → Option TypeTree → Ident → Parser Member
   method mods answer name xs = maker mods name xs >>= (λ t ys. Ok (kinds.Method (method_of answer t), ys))
 
-  -- a field behind its name
+  -- a field after its name
   unfoldable pub field : Mods → TypeTree → Ident → Parser Member
   field mods t name xs = initial value xs >>= (λ e ys. expect o.Semicolon ys >>= (λ _ zs. Ok (kinds.Field (field_of mods t name e), zs)))
 
-  -- behind the modifiers and `void`
+  -- after the modifiers and `void`
   unfoldable pub void_method : Mods → Parser Member
   void_method mods xs = ident xs >>= (λ x ys. method mods None x ys)
 
-  -- behind the modifiers of a constructor
+  -- after the modifiers of a constructor
   unfoldable pub constructor : Mods → Parser Member
   constructor mods xs = ident xs >>= (λ x ys. maker mods x ys >>= (λ t zs. Ok (kinds.Maker t, zs)))
 
-  -- behind the modifiers of another method or of a field
+  -- after the modifiers of another method or of a field
   unfoldable pub typed : Mods → Parser Member
   typed mods xs =
       type_tree n xs >>= (λ t ys. ident ys >>= (λ x zs. if sees o.LeftParen zs then method mods (Some t) x zs else field mods t x zs))
 
-  -- behind the modifiers
+  -- after the modifiers
   unfoldable pub declared : Mods → Parser Member
   declared mods xs =
       if sees_word w.Void xs then void_method mods (next xs) else (if is_maker xs then constructor mods xs else typed mods xs)
@@ -140,7 +140,7 @@ abbrev pub class_of : Bool → Ident → Option Ident → List Member → ClassT
 class_of is_public name parent members = record { is_public = is_public; name = name; parent = parent; members = members }
 
 module _ (part : Parser Member) where
-  -- members and the closing brace, behind those that are found
+  -- members and the closing brace, after those that are found
   unfoldable pub members : ℕ → List Member → Parser (List Member)
   members zero found xs = Err no_tree
   members (suc n) found xs =
@@ -167,13 +167,13 @@ abbrev pub sees_end : List Lexeme → Bool
 sees_end [] = false
 sees_end (x ∷ xs) = is_end x.kind
 
--- classes of at most this height and the end, behind those that are found
+-- classes of at most this height and the end, after those that are found
 unfoldable pub classes : ℕ → ℕ → List ClassTree → Parser (List ClassTree)
 classes n zero found xs = Err no_tree
 classes n (suc fuel) found xs =
     if sees_end xs then Ok (found, next xs) else (class n xs >>= (λ t ys. classes n fuel (found ++ t ∷ []) ys))
 
--- nothing stands behind the end
+-- nothing stands after the end
 abbrev pub whole : List ClassTree → Parser (List ClassTree)
 whole all [] = Ok (all, [])
 whole all (x ∷ xs) = Err no_tree

@@ -32,7 +32,7 @@ Tall = Expr × ℕ
 abbrev pub Talls : Type 0
 Talls = List Expr × ℕ
 
--- ---- what a token does behind an operand
+-- ---- what a token does after an operand
 
 abbrev pub infix_operator : Operator → Infix
 infix_operator o.OrOr = i.Binary binary.Or
@@ -91,7 +91,7 @@ follows xs = binds (first_infix xs)
 -- ---- expressions. `part l` reads one of level l or above that is lower than the whole.
 
 module _ (part : ℕ → Parser Tall) where
-  -- arguments and the closing parenthesis, behind those that are found; the first number bounds the turns
+  -- arguments and the closing parenthesis, after those that are found; the first number bounds the turns
   unfoldable pub more_args : ℕ → List Expr → ℕ → Parser Talls
   more_args zero found height xs = Err no_tree
   more_args (suc n) found height xs =
@@ -99,75 +99,75 @@ module _ (part : ℕ → Parser Tall) where
       if sees o.Comma ys then more_args n (found ++ a.0 ∷ []) (max height a.1) (next ys)
       else (expect o.RightParen ys >>= (λ _ zs. Ok ((found ++ a.0 ∷ [], max height a.1), zs))))
 
-  -- the arguments behind the opening parenthesis
+  -- the arguments after the opening parenthesis
   unfoldable pub args : Parser Talls
   args xs = if sees o.RightParen xs then Ok (([], 0), next xs) else more_args (length xs) [] 0 xs
 
-  -- ---- behind a token with which an operand begins
+  -- ---- after a token with which an operand begins
 
-  -- behind a name
+  -- after a name
   unfoldable pub named : Ident → Parser Tall
   named x xs =
       if sees o.LeftParen xs then (args (next xs) >>= (λ r ys. Ok ((e.Call x r.0, r.1 + 1), ys))) else Ok ((e.Name x, 1), xs)
 
-  -- behind an operator before its operand
+  -- after an operator before its operand
   unfoldable pub operand : ℕ → ℕ → UnaryOp → Parser Tall
   operand least at op xs =
       if nat_lt (unary_level op) least then Err no_tree
       else (part 12 xs >>= (λ a ys. Ok ((e.Unary at op a.0, a.1 + 1), ys)))
 
-  -- behind `super`
+  -- after `super`
   unfoldable pub super_call : ℕ → Parser Tall
   super_call at xs =
       expect o.Dot xs >>= (λ _ ys. ident ys >>= (λ x zs. expect o.LeftParen zs >>= (λ _ us. args us >>= (λ r vs.
       Ok ((e.Super at x r.0, r.1 + 1), vs)))))
 
-  -- behind `new` and a class before a `(`
+  -- after `new` and a class before a `(`
   unfoldable pub instance : ℕ → Ident → Parser Tall
   instance at x xs = expect o.LeftParen xs >>= (λ _ ys. args ys >>= (λ r zs. Ok ((e.New at x r.0, r.1 + 1), zs)))
 
-  -- ---- behind an operand
+  -- ---- after an operand
 
-  -- behind a `.`
+  -- after a `.`
   unfoldable pub member : Tall → Parser Tall
   member left xs =
       ident xs >>= (λ x ys.
       if sees o.LeftParen ys then (args (next ys) >>= (λ r zs. Ok ((e.Method left.0 x r.0, max left.1 r.1 + 1), zs)))
       else Ok ((e.Field left.0 x, left.1 + 1), ys))
 
-  -- behind a `[`
+  -- after a `[`
   unfoldable pub element : Tall → Parser Tall
   element left xs =
       part 1 xs >>= (λ a ys. expect o.RightBracket ys >>= (λ _ zs. Ok ((e.Element left.0 a.0, max left.1 a.1 + 1), zs)))
 
-  -- behind a `?`
+  -- after a `?`
   unfoldable pub conditional : Tall → Parser Tall
   conditional left xs =
       part 1 xs >>= (λ a ys. expect o.Colon ys >>= (λ _ zs. part 1 zs >>= (λ b us.
       Ok ((e.Conditional left.0 a.0 b.0, max left.1 (max a.1 b.1) + 1), us))))
 
-  -- behind an operator between two operands
+  -- after an operator between two operands
   unfoldable pub operated : Tall → BinaryOp → Parser Tall
   operated left op xs = part (binary_level op + 1) xs >>= (λ a ys. Ok ((e.Binary op left.0 a.0, max left.1 a.1 + 1), ys))
 
 -- ---- trees in which a type may stand: it has the height n at most, as each other part
 
 module _ (n : ℕ) (part : ℕ → Parser Tall) where
-  -- behind the `(` of a cast
+  -- after the `(` of a cast
   unfoldable pub cast : ℕ → Parser Tall
   cast at xs =
       type_tree n xs >>= (λ t ys.
       if castable t then
-        (expect o.RightParen ys >>= (λ _ zs. part 13 zs >>= (λ a us. Ok ((e.Cast at t a.0, max (type_height t) a.1 + 1), us))))
+      (expect o.RightParen ys >>= (λ _ zs. part 13 zs >>= (λ a us. Ok ((e.Cast at t a.0, max (type_height t) a.1 + 1), us))))
       else Err no_tree)
 
-  -- behind a `(`
+  -- after a `(`
   unfoldable pub parens : ℕ → Parser Tall
   parens at xs =
       if casts xs then cast at xs
       else (part 1 xs >>= (λ a ys. expect o.RightParen ys >>= (λ _ zs. Ok ((e.Paren at a.0, a.1 + 1), zs))))
 
-  -- behind `new` and the base of an array's type
+  -- after `new` and the base of an array's type
   unfoldable pub array : ℕ → BaseType → Parser Tall
   array at b xs =
       expect o.LeftBracket xs >>= (λ _ ys. part 1 ys >>= (λ a zs. expect o.RightBracket zs >>= (λ _ us. pairs n us >>= (λ d vs.
@@ -177,7 +177,7 @@ module _ (n : ℕ) (part : ℕ → Parser Tall) where
   creation_by at (base.Class x) xs = if sees o.LeftParen xs then instance part at x xs else array at (base.Class x) xs
   creation_by at b xs = array at b xs
 
-  -- behind `new`
+  -- after `new`
   unfoldable pub creation : ℕ → Parser Tall
   creation at xs = base_type xs >>= creation_by at
 
@@ -211,7 +211,7 @@ module _ (n : ℕ) (part : ℕ → Parser Tall) where
   prefix least [] = Err no_tree
   prefix least (x ∷ xs) = prefix_by least x.at x.kind xs
 
-  -- behind `instanceof`; nothing that binds more tightly stands behind the type
+  -- after `instanceof`; nothing that binds more tightly stands after the type
   unfoldable pub instance_of : Tall → Parser Tall
   instance_of left xs =
       type_tree n xs >>= (λ t ys.
@@ -226,7 +226,7 @@ module _ (n : ℕ) (part : ℕ → Parser Tall) where
   behind left i.Paren xs = Err no_tree
   behind left i.Other xs = Err no_tree
 
-  -- Goes on with what binds as tightly as `least` while the whole is no higher than its parts and one more; the second
+  -- Goes on with what binds as tightly as `least` while the whole isn't higher than its parts and one more; the second
   -- number bounds the turns.
   unfoldable pub climb : ℕ → ℕ → Tall → Parser Tall
   climb least zero left xs = if nat_lt (follows xs) least then Ok (left, xs) else Err too_high

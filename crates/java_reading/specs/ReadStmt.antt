@@ -100,15 +100,15 @@ module _ (value : Parser Expr) where
   unfoldable pub initial : Parser (Option Expr)
   initial xs = if sees o.Assign xs then (value (next xs) >>= (λ e ys. Ok (Some e, ys))) else Ok (None, xs)
 
-  -- behind the `++` or `--` before its operand
+  -- after the `++` or `--` before its operand
   unfoldable pub step_before : StepOp → Parser Stmt
   step_before op xs = value xs >>= (λ a ys. if is_post (out-Expr a) then Ok (s.Step op fix.Before a, ys) else Err no_tree)
 
-  -- behind an operand and its sign of assignment
+  -- after an operand and its sign of assignment
   unfoldable pub assignment : Expr → AssignOp → Parser Stmt
   assignment a op xs = if is_post (out-Expr a) then (value xs >>= (λ e ys. Ok (s.Assign a op e, ys))) else Err no_tree
 
-  -- behind an operand and its `++` or `--`
+  -- after an operand and its `++` or `--`
   unfoldable pub step_behind : Expr → StepOp → Parser Stmt
   step_behind a op xs = if is_post (out-Expr a) then Ok (s.Step op fix.Behind a, xs) else Err no_tree
 
@@ -120,7 +120,7 @@ module _ (value : Parser Expr) where
   assigned_by a (Some op) xs = assignment a op (next xs)
   assigned_by a None xs = stepped_by a (step_at xs) xs
 
-  -- behind an expression with which the statement begins
+  -- after an expression with which the statement begins
   unfoldable pub evaluated : Expr → Parser Stmt
   evaluated a xs = assigned_by a (assign_at xs) xs
 
@@ -149,13 +149,13 @@ unended (suc n) false xs = simple (value n) xs
 -- in a block or not, that is lower than the whole.
 
 module _ (value : Parser Expr) (arguments : Parser (List Expr)) (header part : Bool → Parser Stmt) where
-  -- statements and the closing brace, behind those that are found; the number bounds the turns
+  -- statements and the closing brace, after those that are found; the number bounds the turns
   unfoldable pub stmts : ℕ → List Stmt → Parser (List Stmt)
   stmts zero found xs = Err no_tree
   stmts (suc n) found xs =
       if sees o.RightBrace xs then Ok (found, next xs) else (part true xs >>= (λ a ys. stmts n (found ++ a ∷ []) ys))
 
-  -- behind the opening brace
+  -- after the opening brace
   unfoldable pub block : Parser Stmt
   block xs = stmts (length xs) [] xs >>= (λ all ys. Ok (s.Block all, ys))
 
@@ -173,7 +173,7 @@ module _ (value : Parser Expr) (arguments : Parser (List Expr)) (header part : B
       if sees o.Semicolon xs then Ok (None, next xs)
       else (value xs >>= (λ e ys. expect o.Semicolon ys >>= (λ _ zs. Ok (Some e, zs))))
 
-  -- ---- behind the keyword
+  -- ---- after the keyword
 
   unfoldable pub otherwise : Parser (Option Stmt)
   otherwise xs = if sees_word w.Else xs then (part false (next xs) >>= (λ t ys. Ok (Some t, ys))) else Ok (None, xs)
@@ -189,7 +189,7 @@ module _ (value : Parser Expr) (arguments : Parser (List Expr)) (header part : B
       part false xs >>= (λ t ys. expect_word w.While ys >>= (λ _ zs. condition zs >>= (λ c us. expect o.Semicolon us >>= (λ _ vs.
       Ok (s.DoWhile t c, vs)))))
 
-  -- further simple statements and the token that closes the list, behind those that are found
+  -- further simple statements and the token that closes the list, after those that are found
   unfoldable pub more_simples : Operator → ℕ → List Stmt → Parser (List Stmt)
   more_simples close zero found xs = Err no_tree
   more_simples close (suc n) found xs =
@@ -223,13 +223,13 @@ module _ (value : Parser Expr) (arguments : Parser (List Expr)) (header part : B
 
   -- ---- the parts of a `try`
 
-  -- behind `catch`
+  -- after `catch`
   unfoldable pub catch : Parser CatchTree
   catch xs =
       expect o.LeftParen xs >>= (λ _ ys. ident ys >>= (λ class zs. ident zs >>= (λ name us. expect o.RightParen us >>= (λ _ vs.
       inner_block vs >>= (λ body ws. Ok (catch_clause class name body, ws))))))
 
-  -- the catch clauses, behind those that are found
+  -- the catch clauses, after those that are found
   unfoldable pub catches : ℕ → List CatchTree → Parser (List CatchTree)
   catches zero found xs = if sees_word w.Catch xs then Err no_tree else Ok (found, xs)
   catches (suc n) found xs =
@@ -289,6 +289,6 @@ unfoldable pub statement : ℕ → Bool → Parser Stmt
 statement zero in_block xs = none_fits xs
 statement (suc n) in_block xs = stmt n (value n) (arguments n) (unended n) (statement n) in_block xs
 
--- statements of at most this height and the closing brace, behind the opening one
+-- statements of at most this height and the closing brace, after the opening one
 unfoldable pub body : ℕ → Parser (List Stmt)
 body n xs = stmts (value n) (arguments n) (unended n) (statement n) (length xs) [] xs

@@ -56,7 +56,7 @@ Answer None xs rest = Then (k.Word w.Void) xs rest
 Answer (Some t) xs rest = IsType t xs rest
 
 -- ---- members. `Part` is of expressions, and `Body all xs rest` says that these statements and a closing brace are written
--- at the front of xs, and that the rest stands behind them.
+-- at the front of xs, and that the rest stands after them.
 
 module _ (Part : Expr → ℕ → List Lexeme → List Lexeme → Type 0) (Body : List Stmt → List Lexeme → List Lexeme → Type 0) where
   -- parameters, exceptions and body of a method or constructor

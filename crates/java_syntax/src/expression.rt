@@ -20,7 +20,7 @@ pub enum Expr {
     Super(u32, Ident, Items<Expr>),
     /// `new C(a, b)`
     New(u32, Ident, Items<Expr>),
-    /// `new T[size][][]`: the base, the size, and how many pairs of brackets stand behind it.
+    /// `new T[size][][]`: the base, the size, and how many pairs of brackets stand after it.
     NewArray(u32, BaseType, Boxed<Expr>, u32),
     /// `o.f`
     Field(Boxed<Expr>, Ident),

@@ -29,6 +29,6 @@ shown_by view.Null = codes "null"
 abbrev pub concatenated : Scalar → Scalar → List ℕ
 concatenated a b = shown a ++ shown b
 
--- a text of at most so many code units
+-- a text of at most that many code units
 abbrev pub text_within : ℕ → List ℕ → Option (List ℕ)
 text_within most t = if nat_le (code_units t) most then Some t else None

@@ -2,8 +2,8 @@ ghost use Rattle.std.specs.Prelude.{◌≡◌};
 ghost use Rattle.primitive_operators.specs.declared.scalar.Scalar.TheVariants as scalar;
 ghost use Rattle.primitive_operators.specs.Operators.{bool_value, equality_value, unary_value};
 
-use crate::applied::boolean;
 use crate::Applied;
+use crate::applied::boolean;
 use core_tree::{BinOp, UnOp};
 
 /// What an operator makes of the boolean after it (JLS 15.15.6): `!` gives a boolean, and no other one has a meaning.
@@ -16,8 +16,8 @@ pub fn unary_bool(op: UnOp, a: bool) -> Applied
     }
 }
 
-/// What an operator makes of two booleans (JLS 15.21.2, 15.22.2): `&`, `|`, `^`, `==` and `!=` give a boolean, and no other
-/// one has a meaning.
+/// What an operator makes of two booleans (JLS 15.21.2, 15.22.2): `&`, `|`, `^`, `==` and `!=` give a boolean, and no
+/// other one has a meaning.
 pub fn bool_value(op: BinOp, a: bool, b: bool) -> Applied
     ensures { result ≡ bool_value op a b }
 {
@@ -30,8 +30,8 @@ pub fn bool_value(op: BinOp, a: bool, b: bool) -> Applied
     }
 }
 
-/// What `==` and `!=` make of two values of which it is known whether they are the same (JLS 15.21.3); where it isn't known,
-/// and for every other operator, there is no meaning.
+/// What `==` and `!=` make of two values of which it is known whether they are the same (JLS 15.21.3); where it isn't
+/// known, and for every other operator, there is no meaning.
 pub fn equality_value(op: BinOp, same: Option<bool>) -> Applied
     ensures { result ≡ equality_value op same }
 {

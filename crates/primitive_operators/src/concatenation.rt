@@ -6,8 +6,8 @@ use crate::Shown;
 use core_tree::{OutOfMemory, Text};
 use std::alloc::Global;
 
-/// The text that shows `a` and then `b` (JLS 15.18.1); `None` where it has more than `most` code units, which is found before
-/// memory is asked for. Each character is copied once.
+/// The text that shows `a` and then `b` (JLS 15.18.1); `None` where it has more than `most` code units, which is found
+/// before memory is asked for. Each character is copied once.
 ///
 /// # Errors
 /// `OutOfMemory` where memory runs out.

@@ -2,8 +2,8 @@ ghost use Rattle.std.specs.Prelude.{◌≡◌, int_div, int_rem};
 ghost use Rattle.primitive_operators.specs.declared.scalar.Scalar.TheVariants as scalar;
 ghost use Rattle.primitive_operators.specs.Operators.{divided, int_value, unary_value};
 
-use crate::applied::{boolean, int};
 use crate::Applied;
+use crate::applied::{boolean, int};
 use core_tree::{BinOp, UnOp};
 
 /// What an operator makes of the int after it (JLS 15.15): `+`, `-` and `~` give an int, and `!` has no meaning.
@@ -18,8 +18,8 @@ pub fn unary_int(op: UnOp, a: i32) -> Applied
     }
 }
 
-/// What an operator makes of two ints (JLS 15.17 to 15.22): comparisons give a boolean, and all others an int, but for a
-/// division by zero.
+/// What an operator makes of two ints (JLS 15.17 to 15.22): comparisons give a boolean, and all others an int, but for
+/// a division by zero.
 pub fn int_value(op: BinOp, a: i32, b: i32) -> Applied
     ensures { result ≡ int_value op a b }
 {

@@ -15,8 +15,8 @@ pub fn unary_value(op: UnOp, a: &Scalar) -> Applied
     }
 }
 
-/// What an operator makes of two values (JLS 15.17 to 15.22): between two ints, between two booleans, and `==` and `!=` of a
-/// text and null or of two nulls. It joins no texts.
+/// What an operator makes of two values (JLS 15.17 to 15.22): between two ints, between two booleans, and `==` and `!=`
+/// of a text and null or of two nulls. It joins no texts.
 pub fn binary_value(op: BinOp, a: &Scalar, b: &Scalar) -> Applied
     ensures { result ≡ binary_value op a.now b.now }
 {

@@ -148,7 +148,7 @@ unfolding base_type
 base_written [] = tt
 base_written (x ∷ xs) = base_kind x xs x.kind refl
 
--- the pairs of brackets beyond those that were found, and no `[` behind them
+-- the pairs of brackets beyond those that were found, and no `[` after them
 abbrev pub MoreBrackets : ℕ → ℕ → List Lexeme → List Lexeme → Type 0
 MoreBrackets found all xs rest = (n : ℕ) × (all ≡ found + n) × Brackets n xs rest × (sees o.LeftBracket rest ≡ false)
 
@@ -179,7 +179,7 @@ brackets_written zero found [] room = (0, omega arith, refl, refl)
 brackets_written zero found (x ∷ xs) room = absurd (omega arith)
 brackets_written (suc fuel) found xs room = brackets_test fuel found (brackets_written fuel) xs room (sees o.LeftBracket xs) refl
 
--- pairs of brackets within the limit, and no `[` behind them
+-- pairs of brackets within the limit, and no `[` after them
 abbrev pub IsPairs : ℕ → ℕ → List Lexeme → List Lexeme → Type 0
 IsPairs most n xs rest = Brackets n xs rest × (n ≤ most) × (sees o.LeftBracket rest ≡ false)
 

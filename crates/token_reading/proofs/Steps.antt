@@ -1,4 +1,4 @@
--- Readers one behind the other: what they find, and what they give.
+-- Readers one after the other: what they find, and what they give.
 use Rattle.std.proofs.Common.{◌≡◌, ℕ, suc, ◌≤◌, ◌<◌, nat_lt, List, Bool, true, false, if◌then◌else◌, Ok, Err, refl, arith}
 use Rattle.token_reading.specs.Lexeme.{Lexeme}
 use Rattle.token_reading.specs.Outcome.{no_tree, too_high, Outcome, Parser, ◌>>=◌}

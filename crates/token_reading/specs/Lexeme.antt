@@ -27,7 +27,7 @@ abbrev pub place : List Lexeme → ℕ
 place [] = 0
 place (x ∷ xs) = x.at
 
--- a token of this kind comes first, and these behind it
+-- a token of this kind comes first, and these after it
 abbrev pub Then : TokenKind → List Lexeme → List Lexeme → Type 0
 Then kind xs rest = (at : ℕ) × (xs ≡ lexeme at kind ∷ rest)
 

@@ -7,14 +7,14 @@ pub data Fault : Type 0 where
   no_tree : Fault
   too_high : Fault
 
--- a value and what stands behind it, or why there is none
+-- a value and what stands after it, or why there is none
 abbrev pub Outcome : Type 0 → Type 0
 Outcome A = Result (A × List Lexeme) Fault
 
 abbrev pub Parser : Type 0 → Type 0
 Parser A = List Lexeme → Outcome A
 
--- the second reader behind the first
+-- the second reader after the first
 infixl 10 ◌>>=◌
 abbrev pub ◌>>=◌ : {A B : Type 0} → Outcome A → (A → Parser B) → Outcome B
 (Ok p) >>= f = f p.0 p.1

@@ -96,7 +96,7 @@ param_of t x = record { ty = t; name = x }
 unfoldable pub param : ℕ → Parser ParamTree
 param most xs = type_tree most xs >>= (λ t ys. ident ys >>= (λ x zs. Ok (param_of t x, zs)))
 
--- further parameters and the closing parenthesis, behind those that are found; the second number bounds the turns
+-- further parameters and the closing parenthesis, after those that are found; the second number bounds the turns
 unfoldable pub more_params : ℕ → ℕ → List ParamTree → Parser (List ParamTree)
 more_params most zero found xs = Err no_tree
 more_params most (suc n) found xs =

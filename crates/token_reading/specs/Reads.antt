@@ -12,7 +12,7 @@ Fails o refusal.NoTree = o ≡ Err no_tree
 Fails o refusal.TooHigh = o ≡ Err too_high
 Fails o refusal.OutOfMemory = Unit {0}
 
--- The reading function gives this value and these tokens behind it, or none for this reason.
+-- The reading function gives this value and these tokens after it, or none for this reason.
 abbrev pub Reads : {A : Type 0} → Outcome A → Result A Refusal → List Lexeme → Type 0
 Reads o (Ok a) after = o ≡ Ok (a, after)
 Reads o (Err e) after = Fails o e

@@ -10,7 +10,7 @@ use Rattle.token_reading.specs.declared.name.ParamTree.{ParamTree}
 use Rattle.token_reading.specs.declared.name.TypeTree.{TypeTree}
 use Rattle.token_reading.specs.Lexeme.{Lexeme, lexeme, Then, is_operator}
 
--- the identifier comes first, and the rest stands behind it
+-- the identifier comes first, and the rest stands after it
 abbrev pub IsIdent : Ident → List Lexeme → List Lexeme → Type 0
 IsIdent x xs rest = xs ≡ lexeme x.at (k.Ident x.name) ∷ rest
 
@@ -26,7 +26,7 @@ IsBase base.Int xs rest = Then (k.Word w.Int) xs rest
 IsBase base.Boolean xs rest = Then (k.Word w.Boolean) xs rest
 IsBase (base.Class x) xs rest = IsIdent x xs rest
 
--- a base, and pairs of brackets behind it
+-- a base, and pairs of brackets after it
 abbrev pub IsType : TypeTree → List Lexeme → List Lexeme → Type 0
 IsType t xs rest = (ys : List Lexeme) × IsBase t.base xs ys × Brackets t.dimensions ys rest
 
@@ -39,7 +39,7 @@ castable_by _ (suc n) = true
 abbrev pub castable : TypeTree → Bool
 castable t = castable_by t.base t.dimensions
 
--- what stands behind pairs of brackets
+-- what stands after pairs of brackets
 abbrev pub past_brackets : List Lexeme → List Lexeme
 past_brackets [] = []
 past_brackets (x ∷ []) = x ∷ []
@@ -58,7 +58,7 @@ MoreParams [] xs rest = Then (k.Op o.RightParen) xs rest
 MoreParams (t ∷ more) xs rest =
     (ys : List Lexeme) × Then (k.Op o.Comma) xs ys × (zs : List Lexeme) × Param t ys zs × MoreParams more zs rest
 
--- the parameters behind the opening parenthesis
+-- the parameters after the opening parenthesis
 abbrev pub Params : List ParamTree → List Lexeme → List Lexeme → Type 0
 Params [] xs rest = Then (k.Op o.RightParen) xs rest
 Params (t ∷ more) xs rest = (ys : List Lexeme) × Param t xs ys × MoreParams more ys rest

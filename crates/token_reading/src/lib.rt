@@ -1,8 +1,8 @@
 //! Tokens as a list that is read from its front, identifiers, types and parameters, and what a reader answers.
 //!
-//! A reader is a function on lists of numbered tokens (`specs/Outcome`): it gives a tree and the tokens behind it, or
+//! A reader is a function on lists of numbered tokens (`specs/Outcome`): it gives a tree and the tokens after it, or
 //! says that no tree is written there, or only trees that are too high. `Tokens` is such a list as a value, and
-//! `specs/Reads` says that a method on it does what a reader does. `proofs/` has what is known of readers one behind
+//! `specs/Reads` says that a method on it does what a reader does. `proofs/` has what is known of readers one after
 //! the other, for the crates above, whose trees are larger.
 //!
 //! Read `name`, `place`, `fault`, `refusal`, `error`; the files of `specs/` in their order; then `tokens`, `types`

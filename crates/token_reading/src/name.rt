@@ -10,7 +10,7 @@ pub struct Ident {
     pub name: Name,
 }
 
-/// A type as it is written: a base with pairs of brackets behind it (JLS 4.2, 4.3).
+/// A type as it is written: a base with pairs of brackets after it (JLS 4.2, 4.3).
 #[derive(Drop)]
 pub struct TypeTree {
     pub base: BaseType,

@@ -24,7 +24,7 @@ impl TokenPlace {
     }
 }
 
-/// Where each of these tokens begins, in order. `AllocError` where there is no memory left.
+/// Where each of these tokens begins, in order. `AllocError` where memory runs out.
 pub fn places(alloc: Global, tokens: &[Token]) -> Result<Items<TokenPlace>, AllocError>
     ensures { IfOk result (λ places. places ≡ places_of tokens.now) }
 {

@@ -92,7 +92,7 @@ impl<'a> Tokens<'a> {
         self.rest.len()
     }
 
-    /// Goes behind the next token.
+    /// Goes after the next token.
     pub fn skip(&mut self)
         ensures { self.new ≡ spec.next self.old }
     {
@@ -122,7 +122,7 @@ impl<'a> Tokens<'a> {
         }
     }
 
-    /// Goes behind this operator or separator, where it comes next, and says whether it did.
+    /// Goes after this operator or separator, where it comes next, and says whether it did.
     pub fn eat(&mut self, sign: Operator) -> bool
         ensures found { result ≡ sees sign self.old }
         ensures after { self.new ≡ (if sees sign self.old then spec.next self.old else self.old) }
@@ -134,7 +134,7 @@ impl<'a> Tokens<'a> {
         found
     }
 
-    /// Goes behind this keyword, where it comes next, and says whether it did.
+    /// Goes after this keyword, where it comes next, and says whether it did.
     pub fn eat_word(&mut self, word: Keyword) -> bool
         ensures found { result ≡ sees_word word self.old }
         ensures after { self.new ≡ (if sees_word word self.old then spec.next self.old else self.old) }

@@ -46,7 +46,7 @@ impl Tokens<'_> {
         ahead.eat(Operator::LeftBracket) && ahead.sees(Operator::RightBracket)
     }
 
-    /// Goes behind all pairs of brackets that come next.
+    /// Goes after all pairs of brackets that come next.
     #[tactic(auto, using(crate::proofs::Pairs::past_pair, crate::proofs::Pairs::past_none, crate::proofs::Pairs::pair_shorter))]
     pub fn skip_brackets(&mut self)
         ensures { self.new ≡ past_brackets self.old }

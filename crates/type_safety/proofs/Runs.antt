@@ -4,6 +4,7 @@ use Rattle.std.specs.Prelude.{option_and_then}
 use Rattle.std.specs.Option.{option_map_or}
 use Rattle.std.proofs.lemmas.Option.{none-some, same_Some}
 use Rattle.std.proofs.lemmas.Bool.{false≢true, leb-true, not-true}
+use Rattle.std.specs.Cmp.{first_so, second_so}
 use Rattle.core_tree.specs.Text.{code_units}
 use Rattle.core_tree.specs.declared.ty.Ty.{Ty}
 use Rattle.core_tree.specs.declared.ty.Ty.TheVariants as ty
@@ -33,7 +34,7 @@ use Rattle.evaluation.specs.Run.{arguments_heap, first_world, has_short_argument
 use Rattle.type_safety.specs.Fits.{FitsType, FitsKind, FitsHeap, FitsThis, FitsScope}
 use Rattle.type_safety.specs.Ends.{Wanted, Meets, AreSafe}
 use Rattle.type_safety.proofs.Assignable.{found_passes, array_to_array, value_opens, is_assignable_refl}
-use Rattle.type_safety.proofs.Lists.{and_l, and_r, all_at, mapped_at}
+use Rattle.type_safety.proofs.Lists.{all_at, mapped_at}
 use Rattle.type_safety.proofs.Values.{object_cases, of_kind, is_string_text}
 use Rattle.type_safety.proofs.Parts.{gives_ends, gives_in, enter_ends, enter_in, scope_fuel}
 use Rattle.type_safety.proofs.Programs as programs
@@ -74,9 +75,9 @@ module _ (p : Program) (typed : IsWellTyped p) where
   begins : (main : Method) (args : List (List ℕ)) (steps : ℕ) (journal : List Entry) → IsTrue (is_main main) → IsTrue (has_short_arguments args) → FitsScope p (method_scope main) (first_world main args steps journal)
   begins main args steps journal is short = record {
     world = record { heap = arguments_fit args short; live = omega arith };
-    this = no_this (and_l (not main.on_object) (same_types main.params (type.Array ty.Text ∷ [])) is);
+    this = no_this (first_so (not main.on_object) (same_types main.params (type.Array ty.Text ∷ [])) is);
     locals = locals_fit p (arguments_heap args) (value.Ref 0 ∷ []) main.params main.locals
-        (subst (FitAll p (arguments_heap args) (value.Ref 0 ∷ [])) (sym (same_lists main.params (type.Array ty.Text ∷ []) (and_r (not main.on_object) (same_types main.params (type.Array ty.Text ∷ [])) is)))
+        (subst (FitAll p (arguments_heap args) (value.Ref 0 ∷ [])) (sym (same_lists main.params (type.Array ty.Text ∷ []) (second_so (not main.on_object) (same_types main.params (type.Array ty.Text ∷ [])) is)))
         (of_kind p (arguments_heap args) 0 (type.Array ty.Text) (kind.Array ty.Text) refl (array_to_array p.classes ty.Text ty.Text (is_assignable_refl p.classes (programs.have_lines p typed) ty.Text (text_is_value (length p.classes)))), tt));
   }
     where
@@ -111,7 +112,7 @@ module _ (p : Program) (typed : IsWellTyped p) where
   meets_ending t h outcome.Stuck meets = absurd meets
 
   main_body : (m : Method) → IsTrue (is_method p m) → IsTrue (is_typed_body p (method_scope m) m.body)
-  main_body m passes = search (and_l, and_r)
+  main_body m passes = search (first_so, second_so)
 
   main_ends : (main : Method) (args : List (List ℕ)) (steps : ℕ) (journal : List Entry) → slice_get p.methods p.main ≡ Some main → IsTrue (is_main main) → EndsWell (ending (run_main p args (first_world main args steps journal)))
   main_ends main args steps journal is_main passes = short (has_short_arguments args) refl

@@ -5,6 +5,7 @@ use Rattle.std.specs.Option.{option_map_or}
 use Rattle.std.specs.List.{list_all}
 use Rattle.std.proofs.lemmas.Option.{none-some, same_Some, option_and_then_some}
 use Rattle.std.proofs.lemmas.Bool.{false≢true, and_from, or_cases, or_left, or_right}
+use Rattle.std.specs.Cmp.{first_so, second_so}
 use Rattle.core_tree.specs.declared.ty.Ty.{Ty}
 use Rattle.core_tree.specs.declared.ty.Ty.TheVariants as ty
 use Rattle.core_tree.specs.declared.built_in.BuiltIn.{BuiltIn}
@@ -40,7 +41,6 @@ use Rattle.evaluation.specs.Execute.{printed, prints, print_value, handler, thro
 use Rattle.type_safety.specs.Fits.{FitsType, FitsScope, HasGrown}
 use Rattle.type_safety.specs.Ends.{Wanted, Meets, Follows, EndsAs, EndsIn, IsTypedLoop, IsThrown, AreSafe}
 use Rattle.type_safety.proofs.Assignable.{found_passes, class_type, array_type, same_type, to_class, is_object_class, int_type, boolean_type}
-use Rattle.type_safety.proofs.Lists.{and_l, and_r}
 use Rattle.type_safety.proofs.Values.{fits_grown, fits_on, default_fits, of_kind, object_cases, object_grown, grown_refl, grown_trans, is_int_int}
 use Rattle.type_safety.proofs.Parts.{in_scope, gives_ends, gives_in, value_then_in, normal_then_in, normal_is_statement}
 use Rattle.type_safety.proofs.Programs as programs
@@ -66,7 +66,7 @@ meets_grown p t inside h later outcome.Stuck grown meets = meets
 -- a list of statements that are well typed, in the two ways of saying so
 all_typed : (p : Program) (s : Scope) (ss : List Stmt) (inside : Bool) → IsTrue (all_of (map (is_typed_stmt p s) ss) inside) → IsTrue (list_all (λ x. is_typed_stmt p s x inside) ss)
 all_typed p s [] inside all = refl
-all_typed p s (x ∷ xs) inside all = and_from (is_typed_stmt p s x inside) (list_all (λ x. is_typed_stmt p s x inside) xs) (and_l (is_typed_stmt p s x inside) (all_of (map (is_typed_stmt p s) xs) inside) all) (all_typed p s xs inside (and_r (is_typed_stmt p s x inside) (all_of (map (is_typed_stmt p s) xs) inside) all))
+all_typed p s (x ∷ xs) inside all = and_from (is_typed_stmt p s x inside) (list_all (λ x. is_typed_stmt p s x inside) xs) (first_so (is_typed_stmt p s x inside) (all_of (map (is_typed_stmt p s) xs) inside) all) (all_typed p s xs inside (second_so (is_typed_stmt p s x inside) (all_of (map (is_typed_stmt p s) xs) inside) all))
 
 pub one_not_zero : ◌≡◌ {A = ℕ} 1 0 → ⊥
 one_not_zero is = omega arith
@@ -119,10 +119,10 @@ module _ (p : Program) (typed : IsWellTyped p) (part : Parts) (safe : AreSafe p 
       statement inside w (write_local at v w) (write_local_in p s at r v w fits is (subst (FitsType p w.now v) (same_type t r same) of_type)))
 
   declare_in : (inside : Bool) (at : ℕ) (t : Ty) (e : Option Expr) (w : World) → IsTrue (has (is_same_type t) (slice_get s.locals at) && if_there p s (fits_part p t) e) → FitsScope p s w → Ends inside w (stmt_node p part (Stmt-F.Declare at t e) w)
-  declare_in inside at t None w passes fits = declared inside at t (default_of t) w (and_l (has (is_same_type t) (slice_get s.locals at)) true passes) fits (default_fits p w.now t)
+  declare_in inside at t None w passes fits = declared inside at t (default_of t) w (first_so (has (is_same_type t) (slice_get s.locals at)) true passes) fits (default_fits p w.now t)
   declare_in inside at t (Some e) w passes fits =
-      tested_part_in e (λ from. is_assignable p.classes from t) (Wanted.StatementEnd s.answer inside) (write_local at) w (and_r (has (is_same_type t) (slice_get s.locals at)) (fits_part p t (type_of p s e)) passes) fits (λ a v u below fits_u on of_type.
-      declared inside at t v u (and_l (has (is_same_type t) (slice_get s.locals at)) (fits_part p t (type_of p s e)) passes) fits_u (assigned u.now v a t of_type below))
+      tested_part_in e (λ from. is_assignable p.classes from t) (Wanted.StatementEnd s.answer inside) (write_local at) w (second_so (has (is_same_type t) (slice_get s.locals at)) (fits_part p t (type_of p s e)) passes) fits (λ a v u below fits_u on of_type.
+      declared inside at t v u (first_so (has (is_same_type t) (slice_get s.locals at)) (fits_part p t (type_of p s e)) passes) fits_u (assigned u.now v a t of_type below))
 
   -- ---- assignments
 
@@ -156,7 +156,7 @@ module _ (p : Program) (typed : IsWellTyped p) (part : Parts) (safe : AreSafe p 
 
   both_some : (test other : Ty → Bool) (x y : PartType) {Q : Type 0} → IsTrue (has test x && has other y) → ((a b : Ty) → x ≡ Some a → y ≡ Some b → Q) → Q
   both_some test other x y {Q = Q} passes next =
-      found_passes test x {Q = Q} (and_l (has test x) (has other y) passes) (λ a is_a test_a. found_passes other y {Q = Q} (and_r (has test x) (has other y) passes) (λ b is_b test_b. next a b is_a is_b))
+      found_passes test x {Q = Q} (first_so (has test x) (has other y) passes) (λ a is_a test_a. found_passes other y {Q = Q} (second_so (has test x) (has other y) passes) (λ b is_b test_b. next a b is_a is_b))
 
   either_some : (x y : PartType) {Q : Type 0} → IsTrue (ints x y || booleans x y) → ((a b : Ty) → x ≡ Some a → y ≡ Some b → Q) → Q
   either_some x y {Q = Q} passes next = ⊎_elim (λ both. both_some is_int is_int x y {Q = Q} both next) (λ both. both_some is_boolean is_boolean x y {Q = Q} both next) (or_cases (ints x y) (booleans x y) passes)
@@ -211,7 +211,7 @@ module _ (p : Program) (typed : IsWellTyped p) (part : Parts) (safe : AreSafe p 
 
   update_in : (inside : Bool) (to : Target) (op : UpOp) (e : Option Expr) (w : World) → IsTrue (is_update op (target_type p s to) (operand_type p s e) && (is_some e || is_counting op)) → FitsScope p s w → Ends inside w (stmt_node p part (Stmt-F.Update to op e) w)
   update_in inside to op e w typed_update fits =
-      let passes = and_l (is_update op (target_type p s to) (operand_type p s e)) (is_some e || is_counting op) typed_update in
+      let passes = first_so (is_update op (target_type p s to) (operand_type p s e)) (is_some e || is_counting op) typed_update in
       update_parts op (target_type p s to) (operand_type p s e) {Q = Ends inside w (stmt_node p part (Stmt-F.Update to op e) w)} passes (λ a b is_a is_b.
       with_target_in inside to a (update_place p part op e) w is_a fits (λ place u fits_u is_place.
       update_place_in inside op e place a b u (subst (λ x. IsTrue (is_update op x (Some b))) is_a (subst (λ y. IsTrue (is_update op (target_type p s to) y)) is_b passes)) is_b fits_u is_place))
@@ -231,7 +231,7 @@ module _ (p : Program) (typed : IsWellTyped p) (part : Parts) (safe : AreSafe p 
   print_in : (inside line : Bool) (e : Option Expr) (w : World) → IsTrue (if_there p s has_text e && (line || is_some e)) → FitsScope p s w → Ends inside w (stmt_node p part (Stmt-F.Print line e) w)
   print_in inside line None w passes fits = prints_in inside (printed line []) w fits
   print_in inside line (Some e) w passes fits =
-      tested_part_in e (λ t. has_text (Some t)) (Wanted.StatementEnd s.answer inside) (print_value line) w (and_l (has_text (type_of p s e)) (line || true) passes) fits (λ a v u printable fits_u on of_type.
+      tested_part_in e (λ t. has_text (Some t)) (Wanted.StatementEnd s.answer inside) (print_value line) w (first_so (has_text (type_of p s e)) (line || true) passes) fits (λ a v u printable fits_u on of_type.
       let text = has_a_text p u.now v a printable of_type in
       subst (λ t. Ends inside u (option_map_or (λ t. prints (printed line t)) t (gives outcome.Stuck) u)) (sym text.1) (prints_in inside (printed line text.0) u fits_u))
 
@@ -290,17 +290,17 @@ module _ (p : Program) (typed : IsWellTyped p) (part : Parts) (safe : AreSafe p 
       let c = (out-Catch k).class in
       let local = has (is_same_type (ty.Class c)) (slice_get s.locals (out-Catch k).slot) in
       let body = is_typed_stmt p s (out-Catch k).body inside in
-      let rest = and_r (is_throwable p c) (local && body) passes in
+      let rest = second_so (is_throwable p c) (local && body) passes in
       normal_then_in p s (Wanted.StatementEnd s.answer inside) (part.stmt (out-Catch k).body) w (write_local (out-Catch k).slot (value.Ref o) w)
-      (declared inside (out-Catch k).slot (ty.Class c) (value.Ref o) w (and_l local body rest) fits (of_kind p w.now o (ty.Class c) (kind.Instance d) is_kind (to_class p.classes d c below))) (λ u fits_u grown.
-      safe.stmt s (out-Catch k).body inside u (and_r local body rest) fits_u)
+      (declared inside (out-Catch k).slot (ty.Class c) (value.Ref o) w (first_so local body rest) fits (of_kind p w.now o (ty.Class c) (kind.Instance d) is_kind (to_class p.classes d c below))) (λ u fits_u grown.
+      safe.stmt s (out-Catch k).body inside u (second_so local body rest) fits_u)
 
   handler_in : (inside : Bool) (o d : ℕ) (ks : List Catch) (w : World) → IsTrue (all_of (map typed_catch ks) inside) → FitsScope p s w → kind_at w.now o ≡ Some (kind.Instance d) → IsThrown p w.now o → Ends inside w (handled p part o (handler p ks d) w)
   handler_in inside o d [] w passes fits is_kind thrown = gives_in p s (Wanted.StatementEnd s.answer inside) w (outcome.Throw o) fits thrown
-  handler_in inside o d (k ∷ ks) w passes fits is_kind thrown = cases (handler_in inside o d ks w (and_r (typed_catch k inside) (all_of (map typed_catch ks) inside) passes) fits is_kind thrown) (is_subclass p.classes d (out-Catch k).class) refl
+  handler_in inside o d (k ∷ ks) w passes fits is_kind thrown = cases (handler_in inside o d ks w (second_so (typed_catch k inside) (all_of (map typed_catch ks) inside) passes) fits is_kind thrown) (is_subclass p.classes d (out-Catch k).class) refl
     where
       cases : Ends inside w (handled p part o (handler p ks d) w) → (below : Bool) → is_subclass p.classes d (out-Catch k).class ≡ below → Ends inside w (handled p part o (if below then Some k else handler p ks d) w)
-      cases others true below = handled_in inside o d k w (subst (λ f. IsTrue (f inside)) (catch_opens k) (and_l (typed_catch k inside) (all_of (map typed_catch ks) inside) passes)) fits is_kind below
+      cases others true below = handled_in inside o d k w (subst (λ f. IsTrue (f inside)) (catch_opens k) (first_so (typed_catch k inside) (all_of (map typed_catch ks) inside) passes)) fits is_kind below
       cases others false below = others
 
   catch_object_in : (inside : Bool) (ks : List Catch) (o : ℕ) (w : World) → IsTrue (all_of (map typed_catch ks) inside) → FitsScope p s w → IsThrown p w.now o → Ends inside w (catch_object p part ks o w)
@@ -413,34 +413,34 @@ module _ (p : Program) (typed : IsWellTyped p) (part : Parts) (safe : AreSafe p 
   node_in (Stmt-F.Print line e) inside w is fits = print_in inside line e w is fits
   node_in (Stmt-F.If e x None) inside w is fits =
       let rest = is_typed_stmt p s x inside && true in
-      if_in inside e x None w (and_l (is_condition p s e) rest is) (and_l (is_typed_stmt p s x inside) true (and_r (is_condition p s e) rest is)) refl fits
+      if_in inside e x None w (first_so (is_condition p s e) rest is) (first_so (is_typed_stmt p s x inside) true (second_so (is_condition p s e) rest is)) refl fits
   node_in (Stmt-F.If e x (Some y)) inside w is fits =
       let rest = is_typed_stmt p s x inside && is_typed_stmt p s y inside in
-      if_in inside e x (Some y) w (and_l (is_condition p s e) rest is) (and_l (is_typed_stmt p s x inside) (is_typed_stmt p s y inside) (and_r (is_condition p s e) rest is)) (and_r (is_typed_stmt p s x inside) (is_typed_stmt p s y inside) (and_r (is_condition p s e) rest is)) fits
+      if_in inside e x (Some y) w (first_so (is_condition p s e) rest is) (first_so (is_typed_stmt p s x inside) (is_typed_stmt p s y inside) (second_so (is_condition p s e) rest is)) (second_so (is_typed_stmt p s x inside) (is_typed_stmt p s y inside) (second_so (is_condition p s e) rest is)) fits
   node_in (Stmt-F.While e x) inside w is fits =
-      turn_in inside (record { test = Some e; updates = []; body = x }) w (record { test = and_l (is_condition p s e) (is_typed_stmt p s x true) is; updates = refl; body = and_r (is_condition p s e) (is_typed_stmt p s x true) is }) fits
+      turn_in inside (record { test = Some e; updates = []; body = x }) w (record { test = first_so (is_condition p s e) (is_typed_stmt p s x true) is; updates = refl; body = second_so (is_condition p s e) (is_typed_stmt p s x true) is }) fits
   node_in (Stmt-F.DoWhile x e) inside w is fits =
-      body_of_in inside (record { test = Some e; updates = []; body = x }) w (record { test = and_r (is_typed_stmt p s x true) (is_condition p s e) is; updates = refl; body = and_l (is_typed_stmt p s x true) (is_condition p s e) is }) fits
+      body_of_in inside (record { test = Some e; updates = []; body = x }) w (record { test = second_so (is_typed_stmt p s x true) (is_condition p s e) is; updates = refl; body = first_so (is_typed_stmt p s x true) (is_condition p s e) is }) fits
   node_in (Stmt-F.For first test updates x) inside w is fits =
       let before = all_of (map (is_typed_stmt p s) first) inside in
       let condition = option_map_or (is_condition p s) test true in
       let after_each = all_of (map (is_typed_stmt p s) updates) inside in
       let body = is_typed_stmt p s x true in
-      let rest = and_r before (condition && (after_each && body)) is in
-      for_in inside first test updates x w (and_l before (condition && (after_each && body)) is) (and_l condition (after_each && body) rest) (and_l after_each body (and_r condition (after_each && body) rest)) (and_r after_each body (and_r condition (after_each && body) rest)) fits
+      let rest = second_so before (condition && (after_each && body)) is in
+      for_in inside first test updates x w (first_so before (condition && (after_each && body)) is) (first_so condition (after_each && body) rest) (first_so after_each body (second_so condition (after_each && body) rest)) (second_so after_each body (second_so condition (after_each && body) rest)) fits
   node_in (Stmt-F.Return e) inside w is fits = return_in inside e w is fits
   node_in Stmt-F.Break inside w is fits = gives_in p s (Wanted.StatementEnd s.answer inside) w outcome.Break fits is
   node_in Stmt-F.Continue inside w is fits = gives_in p s (Wanted.StatementEnd s.answer inside) w outcome.Continue fits is
   node_in (Stmt-F.Throw e) inside w is fits = throw_in inside e w is fits
   node_in (Stmt-F.Try body ks None) inside w is fits =
       let catches = all_of (map typed_catch ks) inside in
-      let rest = and_r (is_typed_stmt p s body inside) (catches && true) is in
-      try_in inside body ks None w (and_l (is_typed_stmt p s body inside) (catches && true) is) (and_l catches true rest) refl fits
+      let rest = second_so (is_typed_stmt p s body inside) (catches && true) is in
+      try_in inside body ks None w (first_so (is_typed_stmt p s body inside) (catches && true) is) (first_so catches true rest) refl fits
   node_in (Stmt-F.Try body ks (Some x)) inside w is fits =
       let catches = all_of (map typed_catch ks) inside in
       let last = is_typed_stmt p s x inside in
-      let rest = and_r (is_typed_stmt p s body inside) (catches && last) is in
-      try_in inside body ks (Some x) w (and_l (is_typed_stmt p s body inside) (catches && last) is) (and_l catches last rest) (and_r catches last rest) fits
+      let rest = second_so (is_typed_stmt p s body inside) (catches && last) is in
+      try_in inside body ks (Some x) w (first_so (is_typed_stmt p s body inside) (catches && last) is) (first_so catches last rest) (second_so catches last rest) fits
 
   pub stmt_in : (x : Stmt) (inside : Bool) (w : World) → IsTrue (is_typed_stmt p s x inside) → FitsScope p s w → Ends inside w (stmt_node p part (out-Stmt x) w)
   unfolding is_typed_stmt

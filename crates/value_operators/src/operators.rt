@@ -7,7 +7,9 @@ use crate::scalars::computed;
 use core_tree::{BinOp, OutOfMemory, UnOp, UpOp};
 use evaluation::Computed;
 use heap_arena::Cell;
-use primitive_operators::{binary_op, bool_value, equality_value, int_value, unary_bool, unary_int};
+use primitive_operators::{
+    binary_op, bool_value, equality_value, int_value, unary_bool, unary_int,
+};
 use std::alloc::Global;
 
 /// What an operator makes of the value after it (JLS 15.15): `+`, `-` and `~` of an int and `!` of a boolean, and

@@ -12,8 +12,8 @@ use pb_int::{Digits, decimal};
 use primitive_operators::Shown;
 use std::alloc::Global;
 
-/// The bytes that a print of a value writes: the text that is shown of it in UTF-8, and a line feed where the line ends.
-/// There are none for a reference.
+/// The bytes that a print of a value writes: the text that is shown of it in UTF-8, and a line feed where the line
+/// ends. There are none for a reference.
 pub fn print_bytes(alloc: Global, line: bool, v: &Cell<u32>) -> Result<Option<Vec<u8>>, OutOfMemory>
     ensures value { IfOk result (λ it. option_map (λ bytes. bytes.items) it ≡ option_map (printed line) (shown v.now)) }
     ensures memory { IsErr result → IsSome (shown v.now) }

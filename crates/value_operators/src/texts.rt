@@ -55,8 +55,8 @@ pub fn text_length(v: &Cell<u32>) -> Computed
     }
 }
 
-/// Whether two texts have the same characters. A null first traps, whatever the second is; no text equals null. Every other
-/// value gives `NoMeaning`.
+/// Whether two texts have the same characters. A null first traps, whatever the second is; no text equals null. Every
+/// other value gives `NoMeaning`.
 pub fn text_equals(a: &Cell<u32>, b: &Cell<u32>) -> Computed
     ensures { result ≡ text_equals a.now b.now }
 {

@@ -15,7 +15,7 @@ use Rattle.core_tree.specs.Typing.{chosen_number}
 use Rattle.heap_arena.specs.Heap.{Value, default_of, class_at}
 use Rattle.evaluation.specs.declared.outcome.Outcome.{Outcome}
 use Rattle.evaluation.specs.declared.outcome.Outcome.TheVariants as outcome
-use Rattle.evaluation.specs.World.{World, Answer, Run, gives, ◌>>=◌, ◌>>◌}
+use Rattle.evaluation.specs.World.{Answer, Run, gives, ◌>>=◌, ◌>>◌}
 use Rattle.evaluation.specs.Objects.{trap, with_object, read_cell, write_cell, message_place}
 
 -- a loop: its condition, where it has one, what is executed after each turn, and its body

@@ -1,5 +1,5 @@
 -- What reads, writes and prints do, by cases on what is there.
-use Rattle.std.proofs.Common.{◌≡◌, ◌&&◌, IsTrue, ◌<◌, ◌≤◌, ℕ, Bool, true, false, List, ◌∷◌, length, Option, Some, None, refl, sym, ap, ◌∙◌, get_or, option_map, slice_set}
+use Rattle.std.proofs.Common.{◌≡◌, ◌&&◌, ◌<◌, ◌≤◌, ℕ, Bool, List, ◌∷◌, length, Option, Some, None, refl, sym, ap, ◌∙◌, get_or, option_map, slice_set}
 use Rattle.std.specs.Option.{option_map_or}
 use Rattle.std.proofs.lemmas.Bool.{lt-ltb, le-ltb}
 use Rattle.std.specs.List.{between}

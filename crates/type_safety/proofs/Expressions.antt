@@ -36,7 +36,7 @@ use Rattle.evaluation.specs.Calls.{Parts, arguments, dispatch, construct}
 use Rattle.evaluation.specs.Evaluate.{this_value, choose, new_object, new_built_in, expr_node}
 use Rattle.type_safety.specs.Fits.{FitsType, FitsWorld, FitsScope, FitsThis, has_null, types_of_fields}
 use Rattle.type_safety.specs.Ends.{Wanted, Meets, Follows, EndsAs, AreSafe}
-use Rattle.type_safety.proofs.Assignable.{found_passes, class_type, array_type, to_class, int_type, boolean_type, string_type, text_to}
+use Rattle.type_safety.proofs.Assignable.{found_passes, class_type, array_type, to_class, int_type, boolean_type, text_to}
 use Rattle.type_safety.proofs.Lines.{is_subclass_refl}
 use Rattle.type_safety.proofs.Values.{fits_grown, fits_on, of_kind, kind_grown, is_int_int, is_boolean_boolean, has_null_null}
 use Rattle.type_safety.proofs.Parts.{scope_on, gives_ends, value_then_ends, normal_then_ends}

@@ -4,7 +4,7 @@ use Rattle.std.specs.Prelude.{option_and_then}
 use Rattle.std.specs.Option.{option_map_or}
 use Rattle.std.specs.List.{list_all}
 use Rattle.std.proofs.lemmas.Option.{none-some, same_Some, option_and_then_some}
-use Rattle.std.proofs.lemmas.Bool.{false≢true, and_from, or_cases, or_left, or_right}
+use Rattle.std.proofs.lemmas.Bool.{false≢true, and_from, or_cases}
 use Rattle.std.specs.Cmp.{first_so, second_so}
 use Rattle.core_tree.specs.declared.ty.Ty.{Ty}
 use Rattle.core_tree.specs.declared.ty.Ty.TheVariants as ty
@@ -21,7 +21,7 @@ use Rattle.core_tree.specs.declared.stmt.Stmt.TheFolds.{fold_out-Stmt, fold_out-
 use Rattle.core_tree.specs.declared.stmt.Catch.{Catch, out-Catch}
 use Rattle.core_tree.specs.declared.program.Program.{Program}
 use Rattle.core_tree.specs.BuiltIn.{number_of}
-use Rattle.core_tree.specs.Types.{class_of, elements_of, is_int, is_boolean, is_string, is_null, is_subclass, is_assignable, is_same_type}
+use Rattle.core_tree.specs.Types.{class_of, elements_of, is_int, is_boolean, is_string, is_subclass, is_assignable, is_same_type}
 use Rattle.core_tree.specs.Typing.{Scope, PartType, InLoop, has, fits as fits_part, has_text, ints, booleans, field_type, is_throwable, type_of, target_type, operand_type, is_update, is_counting, if_there, all_of, is_condition, catch_node, is_typed_stmt}
 use Rattle.core_tree.specs.Typing as typing
 use Rattle.core_tree.specs.WellTyped.{IsWellTyped}

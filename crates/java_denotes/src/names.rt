@@ -30,7 +30,7 @@ pub fn variable(alloc: Global, ty: &Ty) -> Result<Option<Denotation>, AllocError
 }
 
 /// The local with this number.
-fn local(alloc: Global, scope: &Scope, number: u32) -> Result<Option<Denotation>, AllocError>
+pub fn local(alloc: Global, scope: &Scope, number: u32) -> Result<Option<Denotation>, AllocError>
     ensures { IfOk result (λ d. d ≡ names.local_denotes scope.now number) }
 {
     match at(scope.slots.as_slice(), number as usize) {

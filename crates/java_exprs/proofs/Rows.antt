@@ -17,13 +17,13 @@ use Rattle.java_names.specs.declared.scope.Scope.{Scope}
 use Rattle.java_names.specs.Scope.{first_scope, declared}
 use Rattle.java_exprs.specs.declared.environment.Environment.{Environment}
 use Rattle.java_exprs.specs.declared.folded.Folded.TheVariants as folded
-use Rattle.java_exprs.specs.declared.typed.Denotation.{Denotation}
-use Rattle.java_exprs.specs.declared.typed.Denotation.TheVariants as denotes
+use Rattle.java_denotes.specs.declared.denotation.Denotation.{Denotation}
+use Rattle.java_denotes.specs.declared.denotation.Denotation.TheVariants as denotes
 use Rattle.java_exprs.specs.declared.typed.Form.{Form}
 use Rattle.java_exprs.specs.declared.typed.Form.TheVariants as form
 use Rattle.java_exprs.specs.Attr.{Attr, value_faults, negated_faults, prefix_faults}
 use Rattle.java_exprs.specs.Operators.{gives_int, gives_bool, of_parts, binary_folded}
-use Rattle.java_exprs.proofs.TypeLemmas.{assignable-Class, assignable-Int, assignable-Array, assignable-Null}
+use Rattle.java_denotes.proofs.TypeLemmas.{assignable-Class, assignable-Int, assignable-Array, assignable-Null}
 use Rattle.java_exprs.specs.Rules.{rule_10, rule_11, rule_12, rule_13, rule_14, rule_15, rule_16, rule_19, rule_21}
 
 -- ---- what the rows speak of

@@ -10,17 +10,17 @@ use Rattle.java_exprs.specs.declared.environment.Environment.{Environment}
 use Rattle.java_exprs.specs.declared.qualifier.Qualifier.{Qualifier}
 use Rattle.java_exprs.specs.declared.qualifier.Qualifier.TheVariants as qualifier
 use Rattle.java_exprs.specs.declared.receiver.Receiver.{Receiver}
-use Rattle.java_exprs.specs.declared.typed.Denotation.{Denotation}
-use Rattle.java_exprs.specs.declared.typed.Denotation.TheVariants as denotes
+use Rattle.java_denotes.specs.declared.denotation.Denotation.{Denotation}
+use Rattle.java_denotes.specs.declared.denotation.Denotation.TheVariants as denotes
 use Rattle.java_exprs.specs.declared.typed.Form.TheVariants as form
 use Rattle.java_exprs.specs.declared.value.Value.{Value}
 use Rattle.java_exprs.specs.Attr.{Attr, of_rule}
 use Rattle.java_exprs.specs.Checks.{of_values}
-use Rattle.java_exprs.specs.Types.{is_printed}
-use Rattle.java_exprs.specs.Denotes.{call_denotes, is_print, library_method}
+use Rattle.java_exprs.specs.Rules.{is_printed, wants, wants_type, calling_10, calling_11, calling_12, calling_13, calling_14, method_10, library_11, library_12}
+use Rattle.java_denotes.specs.Denotes.{call_denotes, library_method}
+use Rattle.java_denotes.specs.Library.{is_print}
 use Rattle.java_exprs.specs.Members.{Calling}
 use Rattle.java_exprs.specs.Resolved.{call_core, library_core, first_core}
-use Rattle.java_exprs.specs.Rules.{wants, wants_type, calling_10, calling_11, calling_12, calling_13, calling_14, method_10, library_11, library_12}
 
 -- a call of the method of that name with these arguments
 abbrev pub calling_of : Receiver → Core → Ident → List Value → Calling
@@ -34,7 +34,7 @@ call_faults env s k =
 
 -- what is known of it, where it begins with token `at` and its arguments break nothing
 abbrev pub call_attr : Environment → Scope → ℕ → Calling → Attr
-call_attr env s at k = record { at = at; denotes = call_denotes env k; form = form.Call; needs_minus = Bool.false; core = call_core env k; faults = call_faults env s k }
+call_attr env s at k = record { at = at; denotes = call_denotes env.symbols k; form = form.Call; needs_minus = Bool.false; core = call_core env k; faults = call_faults env s k }
 
 -- ---- the library's methods
 

@@ -13,15 +13,18 @@ use Rattle.java_names.specs.declared.symbol.FieldSymbol.{FieldSymbol}
 use Rattle.java_names.specs.Lookups.{is_accessible}
 use Rattle.java_exprs.specs.declared.environment.Environment.{Environment}
 use Rattle.java_exprs.specs.declared.receiver.Receiver.{Receiver}
-use Rattle.java_exprs.specs.declared.through.Through.{Through}
-use Rattle.java_exprs.specs.declared.typed.Denotation.TheVariants as denotes
+use Rattle.java_denotes.specs.declared.through.Through.{Through}
+use Rattle.java_denotes.specs.declared.denotation.Denotation.TheVariants as denotes
 use Rattle.java_exprs.specs.declared.typed.Form.{Form}
 use Rattle.java_exprs.specs.declared.typed.Form.TheVariants as form
 use Rattle.java_exprs.specs.declared.value.Value.{Value}
 use Rattle.java_exprs.specs.Attr.{Attr, of_rule, only_if, unless}
 use Rattle.java_exprs.specs.Checks.{of_value}
-use Rattle.java_exprs.specs.Denotes.{class_denotes, library_field, member_denotes, member_form, system_name}
-use Rattle.java_exprs.specs.Lookups.{class_named, constant_at, variable_denotes}
+use Rattle.java_denotes.specs.Denotes.{class_denotes, library_field, member_denotes}
+use Rattle.java_exprs.specs.Denotes.{member_form}
+use Rattle.java_denotes.specs.Library.{system_name}
+use Rattle.java_exprs.specs.Lookups.{class_named, constant_at}
+use Rattle.java_denotes.specs.Lookups.{variable_denotes}
 use Rattle.java_exprs.specs.Members.{Naming}
 use Rattle.java_exprs.specs.Resolved.{literal_core, member_core}
 use Rattle.java_exprs.specs.Rules.{field_10, is_behind_class, naming_10, naming_11, naming_13, naming_14, needs_this, prefix_11}
@@ -61,7 +64,7 @@ naming_of r object x = record { through = r.through; class = r.class; object = o
 abbrev pub naming_attr : Environment → Scope → Receiver → Core → Ident → Attr
 naming_attr env s r object x = let k = naming_of r object x in record {
   at = r.at;
-  denotes = member_denotes env k;
+  denotes = member_denotes env.symbols k;
   form = member_form env k;
   needs_minus = Bool.false;
   core = member_core env k;
@@ -74,7 +77,7 @@ naming_attr env s r object x = let k = naming_of r object x in record {
 abbrev pub class_attr : Environment → Ident → Attr
 class_attr env x = record {
   at = x.at;
-  denotes = class_denotes env x.name;
+  denotes = class_denotes env.symbols x.name;
   form = form.Other;
   needs_minus = Bool.false;
   core = core.Null;

@@ -25,12 +25,13 @@ use Rattle.java_names.specs.declared.symbol.MethodSymbol.{MethodSymbol}
 use Rattle.java_exprs.specs.declared.environment.Environment.{Environment}
 use Rattle.primitive_operators.specs.declared.scalar.Scalar.{Scalar}
 use Rattle.primitive_operators.specs.declared.scalar.Scalar.TheVariants as scalar
-use Rattle.java_exprs.specs.declared.typed.Denotation.{Denotation}
-use Rattle.java_exprs.specs.declared.typed.Denotation.TheVariants as denotes
-use Rattle.java_exprs.specs.declared.through.Through.TheVariants as through
-use Rattle.java_exprs.specs.Attr.{Attr, Node, value_type}
-use Rattle.java_exprs.specs.Members.{Naming, Calling, naming, calling, named_member}
-use Rattle.java_exprs.specs.Denotes.{is_text}
+use Rattle.java_denotes.specs.declared.denotation.Denotation.{Denotation}
+use Rattle.java_denotes.specs.declared.denotation.Denotation.TheVariants as denotes
+use Rattle.java_denotes.specs.declared.through.Through.TheVariants as through
+use Rattle.java_exprs.specs.Attr.{Attr, Node}
+use Rattle.java_denotes.specs.Members.{value_type, called_method, named_member}
+use Rattle.java_exprs.specs.Members.{Naming, Calling, naming, calling}
+use Rattle.java_denotes.specs.Denotes.{is_text}
 use Rattle.java_exprs.specs.Lookups.{method_of, class_named, local_named, maker_of, type_named, elements_named, constant_at}
 
 abbrev pub cores : List Attr → List Core
@@ -55,7 +56,7 @@ literal_core scalar.Null = core.Null
 abbrev pub member_core : Environment → Naming → Core
 member_core env k =
     option_map_or (λ m. option_map_or (λ place. view.Field k.object place) m.place (option_map_or literal_core (constant_at env m.at) core.Null))
-    (named_member env k) core.Null
+    (named_member env.symbols k) core.Null
 
 -- a call on an object is chosen by its class; through `super` it isn't, and the built-in `getMessage` reads the message
 abbrev pub instance_call : Calling → MethodSymbol → Site → Core
@@ -70,7 +71,7 @@ method_core env k m =
     else instance_call k m (site_at env.places k.name.at)
 
 abbrev pub call_core : Environment → Calling → Core
-call_core env k = option_map_or (method_core env k) (method_of env k.class k.name.name (length k.arguments)) core.Null
+call_core env k = option_map_or (method_core env k) (called_method env.symbols k) core.Null
 
 abbrev pub name_core : Environment → Scope → Ident → Option Naming → Core
 name_core env s x k = option_map_or core.Local (local_named s x.name) (option_map_or (member_core env) k core.Null)

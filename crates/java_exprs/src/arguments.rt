@@ -2,13 +2,14 @@
 
 ghost use Rattle.std.specs.Prelude.{◌≡◌, [], map, IfOk, IfErr, reverse};
 ghost use Rattle.java_exprs.specs.Attr.{of_rule};
-ghost use Rattle.java_exprs.specs.Checks.{Allows, of_value, of_values};
+ghost use Rattle.java_names.specs.Refusals.{Allows};
+ghost use Rattle.java_exprs.specs.Checks.{of_value, of_values};
 ghost use Rattle.java_exprs.specs.Rules as rule;
 
-use crate::assignability::is_assignable;
+use java_denotes::assignability::is_assignable;
 use crate::environment::Environment;
 use crate::fault::fault;
-use crate::forms::is_void;
+use java_denotes::forms::is_void;
 use crate::value::Value;
 use class_table::Shared;
 use core_tree::{Expr, Ty};
@@ -16,7 +17,7 @@ use java_syntax::CheckError;
 use sqlite_items::Items;
 use std::alloc::{AllocError, Global};
 
-/// Sees that a value can be assigned to a variable of this type. Where the type is `Void`, its name is unknown, and nothing
+/// Checks that a value can be assigned to a variable of this type. Where the type is `Void`, its name is unknown, and nothing
 /// is asked.
 ///
 /// # Errors
@@ -30,7 +31,7 @@ pub fn fit(env: &Environment, given: &Value, want: &Ty) -> Result<(), CheckError
     Err(fault(11, given.at))
 }
 
-/// Sees that each argument fits its parameter (JLS 15.12.2.2). It takes time in proportion to their number, and for each
+/// Checks that each argument fits its parameter (JLS 15.12.2.2). It takes time in proportion to their number, and for each
 /// to what `is_assignable` takes.
 ///
 /// # Errors

@@ -4,41 +4,27 @@ ghost use Rattle.std.specs.Prelude.{◌≡◌, Some, IfOk, IfErr};
 ghost use Rattle.core_tree.specs.declared.expr.Expr.TheVariants as core;
 ghost use Rattle.java_syntax.specs.declared.expression.Expr.TheOpen.{Expr-F};
 ghost use Rattle.java_exprs.specs.declared.qualifier.Qualifier.TheVariants as qualifier;
-ghost use Rattle.java_exprs.specs.declared.through.Through.TheVariants as through;
+ghost use Rattle.java_denotes.specs.declared.through.Through.TheVariants as through;
 ghost use Rattle.java_exprs.specs.Calls.{calling_of, call_attr, qualifier_of};
 ghost use Rattle.java_exprs.specs.Checks.{Checks, attr_at, clean, of_value, of_values};
-ghost use Rattle.java_exprs.specs.Lookups as names;
 
 use crate::callee::callee;
 use crate::environment::Environment;
 use crate::fault::fault;
-use crate::forms::{class_of, is_void};
+use java_denotes::calls::answer;
+use java_denotes::forms::class_of;
 use crate::invocation::invocation;
 use crate::library_calls::{print, text_call};
 use crate::qualifier::{Qualifier, qualifier_of};
 use crate::receiver::Receiver;
-use crate::through::Through;
-use crate::typed::{Denotation, Form, Typed};
+use java_denotes::{Through, Denotation};
+use crate::typed::{Form, Typed};
 use crate::value::Value;
-use core_tree::{Expr, Ty};
+use core_tree::Expr;
 use java_names::Scope;
 use java_syntax::{CheckError, Ident};
 use sqlite_items::Items;
 use std::alloc::Global;
-
-// What a call of a method with this result gives.
-fn answer(alloc: Global, ty: &Ty) -> Result<Denotation, CheckError>
-    ensures denotes { IfOk result (λ d. d ≡ names.answer_denotes ty.now) }
-    ensures memory { IfErr result (λ e. e ≡ CheckError.OutOfMemory) }
-{
-    if is_void(ty) {
-        return Ok(Denotation::Nothing);
-    }
-    match ty.copy(alloc) {
-        Ok(ty) => Ok(Denotation::Value(ty)),
-        Err(_) => Err(CheckError::OutOfMemory),
-    }
-}
 
 // A call of the method of that name in the receiver's class.
 fn called(
@@ -86,16 +72,6 @@ pub fn call(
     called(alloc, env, scope, receiver, Expr::This, m, arguments)
 }
 
-// The superclass of a class; `None` of `Object` alone.
-fn superclass(env: &Environment, class: u32) -> Option<u32>
-    ensures { result ≡ names.superclass_of env.now class }
-{
-    match env.symbols.class(class) {
-        Some(symbol) => symbol.parent,
-        None => None,
-    }
-}
-
 /// `super.m(..)`, where `at` is the place of `super`.
 ///
 /// # Errors
@@ -116,7 +92,7 @@ pub fn super_call(
         return Err(fault(14, at));
     }
     // No body stands in `Object`, the one class without a superclass.
-    let Some(class) = superclass(env, scope.class) else {
+    let Some(class) = env.symbols.superclass(scope.class) else {
         return Err(CheckError::OutOfMemory);
     };
     let receiver = Receiver {

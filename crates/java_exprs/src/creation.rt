@@ -5,7 +5,8 @@ ghost use Rattle.core_tree.specs.declared.expr.Expr.TheViews as view;
 ghost use Rattle.java_names.specs.Lookups.{is_accessible as accessible};
 ghost use Rattle.java_syntax.specs.declared.expression.Expr.TheOpen.{Expr-F};
 ghost use Rattle.java_exprs.specs.Attr.{of_rule, unless};
-ghost use Rattle.java_exprs.specs.Checks.{Allows, Checks, Refuses, attr_at, of_value, of_values};
+ghost use Rattle.java_names.specs.Refusals.{Allows, Refuses};
+ghost use Rattle.java_exprs.specs.Checks.{Checks, attr_at, of_value, of_values};
 ghost use Rattle.java_exprs.specs.Creation.{maker_core, new_faults};
 ghost use Rattle.java_exprs.specs.Lookups as names;
 ghost use Rattle.java_exprs.specs.Resolved as resolved;
@@ -15,7 +16,8 @@ use crate::arguments::{cores, fit_each};
 use crate::environment::Environment;
 use crate::fault::fault;
 use crate::operators::wants_int;
-use crate::typed::{Denotation, Form, Typed};
+use java_denotes::Denotation;
+use crate::typed::{Form, Typed};
 use crate::value::Value;
 use core_tree::{Expr, Ty};
 use java_names::{MakerSymbol, Scope, arrays, is_accessible, resolve_base};
@@ -104,7 +106,7 @@ fn maker<'a>(
     }
 }
 
-// Sees that the constructor isn't private to another class.
+// Checks that the constructor isn't private to another class.
 fn check_access(
     scope: &Scope,
     number: u32,

@@ -4,7 +4,8 @@ ghost use Rattle.std.specs.Prelude.{◌≡◌, [], IfOk, IfErr, map, option_map}
 ghost use Rattle.std.specs.Option.{option_map_or};
 ghost use Rattle.java_syntax.specs.declared.expression.Expr.TheOpen.{Expr-F};
 ghost use Rattle.java_exprs.specs.Attr.{value_faults, values_faults};
-ghost use Rattle.java_exprs.specs.Checks.{Checks, Refuses, attr, attr_at, of_value, of_values};
+ghost use Rattle.java_exprs.specs.Checks.{Checks, attr, attr_at, of_value, of_values};
+ghost use Rattle.java_names.specs.Refusals.{Refuses};
 
 use crate::environment::Environment;
 use crate::typed::Typed;

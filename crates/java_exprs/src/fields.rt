@@ -5,41 +5,29 @@ ghost use Rattle.core_tree.specs.declared.expr.Expr.TheVariants as core;
 ghost use Rattle.class_table.specs.Names.{same_name};
 ghost use Rattle.java_syntax.specs.declared.expression.Expr.TheOpen.{Expr-F};
 ghost use Rattle.java_exprs.specs.Attr.{of_rule};
-ghost use Rattle.java_exprs.specs.Checks.{Checks, Refuses, attr_at, clean, of_value};
-ghost use Rattle.java_exprs.specs.Denotes as denotes;
+ghost use Rattle.java_exprs.specs.Checks.{Checks, attr_at, clean, of_value};
+ghost use Rattle.java_names.specs.Refusals.{Refuses};
+ghost use Rattle.java_denotes.specs.Library as denotes;
 ghost use Rattle.java_exprs.specs.Fields.{length_attr, naming_attr, naming_of, output_attr};
-ghost use Rattle.java_exprs.specs.Members as members;
+ghost use Rattle.java_denotes.specs.Members as members;
 ghost use Rattle.java_exprs.specs.Rules as rule;
 
 use crate::environment::Environment;
 use crate::fault::fault;
-use crate::forms::{class_of, has_members, is_array};
-use crate::library_names::is_length;
+use java_denotes::forms::{class_of, is_array};
+use crate::forms::has_members;
+use java_denotes::library::{is_length, is_out};
+use java_denotes::names::found;
 use crate::members::member;
 use crate::receiver::Receiver;
-use crate::through::Through;
-use crate::typed::{Denotation, Form, Typed};
+use java_denotes::{Through, Denotation};
+use crate::typed::{Form, Typed};
 use crate::value::Value;
 use core_tree::{Expr, Ty};
 use java_names::{FieldSymbol, Scope};
 use java_syntax::{CheckError, Ident};
-use java_tokens::Name;
 use sqlite_items::Boxed;
 use std::alloc::Global;
-
-// Whether a name is `out`.
-fn is_out(name: &Name) -> bool
-    ensures { result ≡ same_name name.now denotes.out_name }
-{
-    name.characters() == ['o', 'u', 't'].as_slice()
-}
-
-// Whether a field or constant is found there: behind an object only instance fields are.
-fn is_found(through: Through, field: &FieldSymbol) -> bool
-    ensures { result ≡ members.is_found through field.now }
-{
-    field.place.is_some() || !matches!(through, Through::Object)
-}
 
 // The field or constant of that name in the receiver's class. `Fault` of rule 10 where there is none.
 fn find<'a>(
@@ -47,12 +35,12 @@ fn find<'a>(
     receiver: Receiver,
     f: &Ident,
 ) -> Result<&'a FieldSymbol, CheckError>
-    ensures found { IfOk result (λ field. members.named_member env.now (naming_of receiver core.This f.now) ≡ Some field.now) }
+    ensures found { IfOk result (λ field. members.named_member env.now.symbols (naming_of receiver core.This f.now) ≡ Some field.now) }
     ensures fault { IfErr result (Refuses (of_rule 10 (rule.naming_10 env.now (naming_of receiver core.This f.now)) [])) }
 {
-    match env.symbols.field(receiver.class, &f.name) {
-        Some(field) if is_found(receiver.through, field) => Ok(field),
-        _ => Err(fault(10, f.at)),
+    match found(&env.symbols, receiver.through, receiver.class, &f.name) {
+        Some(field) => Ok(field),
+        None => Err(fault(10, f.at)),
     }
 }
 

@@ -11,7 +11,7 @@ ghost use Rattle.java_exprs.specs.Resolved as resolved;
 use crate::arguments::cores;
 use crate::environment::Environment;
 use crate::receiver::Receiver;
-use crate::through::Through;
+use java_denotes::Through;
 use crate::value::Value;
 use core_tree::{Expr, Site};
 use java_names::MethodSymbol;

@@ -1,4 +1,4 @@
-//! Expressions of a file, checked and resolved: what an expression denotes, what it resolves to, and which of the rules 10
+//! Expressions of a file, checked and resolved: what it resolves to, and which of the rules 10
 //! to 16, 19 and 21 it breaks.
 //!
 //! The one public contract is that of `expression::expr`, `Checks (attr env scope e)`. Read `specs/Attr` (what is known of an
@@ -8,7 +8,6 @@
 #![tactic(auto)]
 
 pub mod arguments;
-pub mod assignability;
 mod callee;
 mod calls;
 pub mod casts;
@@ -22,7 +21,6 @@ mod folded;
 pub mod forms;
 mod invocation;
 mod library_calls;
-mod library_names;
 pub mod literals;
 mod members;
 mod names;
@@ -30,7 +28,6 @@ pub mod operators;
 mod qualifier;
 mod receiver;
 mod simple;
-mod through;
 mod typed;
 pub mod unary;
 mod value;
@@ -38,6 +35,5 @@ mod value;
 pub use constants::Constants;
 pub use environment::Environment;
 pub use folded::Folded;
-pub use through::Through;
-pub use typed::{Denotation, Form, Printing, Typed};
+pub use typed::{Form, Typed};
 pub use value::Value;

@@ -7,7 +7,8 @@ ghost use Rattle.java_exprs.specs.Checks.{Checks, attr_at};
 
 use crate::environment::Environment;
 use crate::fault::fault;
-use crate::typed::{Denotation, Form, Typed};
+use java_denotes::Denotation;
+use crate::typed::{Form, Typed};
 use core_tree::{Expr, Text, Ty};
 use java_names::Scope;
 use java_syntax::CheckError;

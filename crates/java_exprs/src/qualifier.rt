@@ -3,11 +3,13 @@
 ghost use Rattle.std.specs.Prelude.{◌≡◌, Some, false, IfOk, IfErr, OnOk};
 ghost use Rattle.java_syntax.specs.declared.expression.Expr.TheOpen.{Expr-F};
 ghost use Rattle.java_exprs.specs.Calls as spec;
-ghost use Rattle.java_exprs.specs.Checks.{Refuses, attr_at, clean, of_values};
+ghost use Rattle.java_names.specs.Refusals.{Refuses};
+ghost use Rattle.java_exprs.specs.Checks.{attr_at, clean, of_values};
 
 use crate::environment::Environment;
 use crate::fault::fault;
-use crate::typed::{Denotation, Typed};
+use java_denotes::Denotation;
+use crate::typed::Typed;
 use crate::value::Value;
 use java_names::Scope;
 use java_syntax::{CheckError, Ident};

@@ -2,10 +2,12 @@
 
 ghost use Rattle.std.specs.Prelude.{◌≡◌, IfOk, IfErr};
 ghost use Rattle.java_exprs.specs.Attr.{value_faults};
-ghost use Rattle.java_exprs.specs.Checks.{Refuses, clean, of_value};
+ghost use Rattle.java_names.specs.Refusals.{Refuses};
+ghost use Rattle.java_exprs.specs.Checks.{clean, of_value};
 
 use crate::fault::fault;
-use crate::typed::{Denotation, Form, Typed};
+use java_denotes::Denotation;
+use crate::typed::{Form, Typed};
 use core_tree::{Expr, Ty};
 use java_syntax::CheckError;
 

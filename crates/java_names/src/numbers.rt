@@ -1,6 +1,6 @@
 //! The numbers of methods and constructors.
 
-ghost use Rattle.std.specs.Prelude.{◌≡◌, ◌+◌, IfOk};
+ghost use Rattle.std.specs.Prelude.{◌≡◌, ◌+◌, IfOk, suc};
 ghost use Rattle.java_names.specs.Numbers as spec;
 
 use crate::built_in::{is_built_in, needs_maker};
@@ -31,7 +31,7 @@ pub fn sum(number: u32, count: usize) -> Result<u32, AllocError>
 
 /// The number after this one. `AllocError` where there is none.
 pub fn following(number: u32) -> Result<u32, AllocError>
-    ensures { IfOk result (λ next. next ≡ number + 1) }
+    ensures { IfOk result (λ next. next ≡ suc number) }
 {
     sum(number, 1)
 }

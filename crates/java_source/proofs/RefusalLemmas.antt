@@ -13,7 +13,7 @@ use Rattle.token_reading.specs.declared.error.ParseError.TheVariants as parse
 use Rattle.java_parse.specs.Answer.{HasCause, IsOnlyTree}
 use Rattle.class_table.specs.Faults.{Blames, Clear}
 use Rattle.class_table.specs.Rules.{Breaks}
-use Rattle.java_exprs.specs.Checks.{Refuses}
+use Rattle.java_names.specs.Refusals.{Refuses}
 use Rattle.java_source.specs.declared.refusal.SourceError.{SourceError}
 use Rattle.java_source.specs.declared.refusal.SourceError.TheVariants as error
 use Rattle.java_source.specs.declared.refusal.SourceRefusal.TheVariants as refusal

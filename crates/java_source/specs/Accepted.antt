@@ -10,7 +10,7 @@ use Rattle.java_syntax.specs.Spells.{Spells}
 use Rattle.class_table.specs.Faults.{Clear}
 use Rattle.class_table.specs.Rules.{Breaks}
 use Rattle.class_table.specs.Table.{table_of}
-use Rattle.java_exprs.specs.Checks.{Has}
+use Rattle.java_names.specs.Refusals.{Has}
 use Rattle.java_types.specs.Files as types
 use Rattle.throw_check.specs.Files as throws
 

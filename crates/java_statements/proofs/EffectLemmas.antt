@@ -16,8 +16,8 @@ use Rattle.java_syntax.specs.declared.statement.Stmt.TheOpen.{Stmt-F}
 use Rattle.java_syntax.specs.declared.statement.Stmt.TheFolds.{fold-Stmt, fold-roll-Stmt, fold_out-CatchTree}
 use Rattle.java_names.specs.declared.scope.Scope.{Scope}
 use Rattle.java_exprs.specs.declared.environment.Environment.{Environment}
-use Rattle.java_exprs.specs.Checks.{Refuses}
-use Rattle.java_exprs.proofs.RulesLemmas.{refuses_left}
+use Rattle.java_names.specs.Refusals.{Refuses}
+use Rattle.java_names.proofs.RefusalLemmas.{refuses_left}
 use Rattle.java_statements.specs.Effects.{Effects, CatchEffects, Part, CatchPart, sequence, clauses}
 use Rattle.java_statements.specs.Statements.{effect, catch_effect, effect_at, catch_at}
 

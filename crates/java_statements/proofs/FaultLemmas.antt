@@ -4,8 +4,9 @@ use Rattle.token_reading.specs.declared.fault.Fault.{Fault}
 use Rattle.token_reading.specs.declared.fault.CheckError.{CheckError}
 use Rattle.token_reading.specs.declared.fault.CheckError.TheVariants as error
 use Rattle.java_exprs.specs.Attr.{of_rule}
-use Rattle.java_exprs.specs.Checks.{Has, Refuses}
-use Rattle.java_exprs.proofs.RulesLemmas.{has_right, has_there}
+use Rattle.java_names.specs.Refusals.{Has, Refuses}
+use Rattle.java_names.proofs.RefusalLemmas.{has_right}
+use Rattle.java_exprs.proofs.RulesLemmas.{has_there}
 
 has_around : (xs ys zs : List Fault) (f : Fault) → Has (xs ++ zs) f → Has ((xs ++ ys) ++ zs) f
 has_around [] ys zs f h = has_right ys zs f h

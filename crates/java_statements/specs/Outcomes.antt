@@ -3,7 +3,7 @@ use Rattle.std.specs.Prelude.{◌≡◌, Result, Ok, Err, []}
 use Rattle.core_tree.specs.declared.stmt.Stmt.{Stmt as Step}
 use Rattle.token_reading.specs.declared.fault.CheckError.{CheckError}
 use Rattle.java_names.specs.declared.scope.Scope.{Scope}
-use Rattle.java_exprs.specs.Checks.{Refuses}
+use Rattle.java_names.specs.Refusals.{Refuses}
 use Rattle.java_statements.specs.Effects.{Effect}
 
 -- without an error the statement breaks no rule, and this is the scope behind it and what it resolves to

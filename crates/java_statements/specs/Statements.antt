@@ -31,11 +31,12 @@ use Rattle.java_names.specs.Lookups.{is_below}
 use Rattle.java_names.specs.Scope.{declared, left}
 use Rattle.java_names.specs.Types.{declared_type, is_string as is_string_name}
 use Rattle.java_exprs.specs.declared.environment.Environment.{Environment}
-use Rattle.java_exprs.specs.declared.typed.Denotation.{Denotation}
-use Rattle.java_exprs.specs.declared.typed.Denotation.TheVariants as denotes
+use Rattle.java_denotes.specs.declared.denotation.Denotation.{Denotation}
+use Rattle.java_denotes.specs.declared.denotation.Denotation.TheVariants as denotes
 use Rattle.java_exprs.specs.declared.typed.Form.{Form}
 use Rattle.java_exprs.specs.declared.typed.Form.TheVariants as form
-use Rattle.java_exprs.specs.Attr.{Attr, value_type, unless, only_if, of_rule, value_faults, values_faults, statement_faults}
+use Rattle.java_exprs.specs.Attr.{Attr, unless, only_if, of_rule, value_faults, values_faults, statement_faults}
+use Rattle.java_denotes.specs.Members.{value_type}
 use Rattle.java_exprs.specs.Lookups.{class_named, local_named, unknown_type}
 use Rattle.java_exprs.specs.Rules.{wants, wants_type, both_11, bitwise_11, of_types, sum_21}
 use Rattle.java_exprs.specs.Checks.{attr}

@@ -2,7 +2,7 @@
 
 ghost use Rattle.std.specs.Prelude.{◌≡◌, [], map, option_map, IfOk, IfErr};
 ghost use Rattle.java_syntax.specs.declared.statement.Stmt.TheOpen.{Stmt-F};
-ghost use Rattle.java_exprs.specs.Checks.{Refuses};
+ghost use Rattle.java_names.specs.Refusals.{Refuses};
 ghost use Rattle.java_statements.specs.Effects.{branch, inner};
 ghost use Rattle.java_statements.specs.Outcomes.{Gives};
 ghost use Rattle.java_statements.specs.Statements.{effect, effect_at};

@@ -3,7 +3,8 @@
 ghost use Rattle.std.specs.Prelude.{◌≡◌, ◌++◌, [], IfOk, IfErr, OnOk};
 ghost use Rattle.std.specs.Option.{option_map_or};
 ghost use Rattle.java_exprs.specs.Attr.{of_rule, value_faults};
-ghost use Rattle.java_exprs.specs.Checks.{Refuses, attr};
+ghost use Rattle.java_names.specs.Refusals.{Refuses};
+ghost use Rattle.java_exprs.specs.Checks.{attr};
 ghost use Rattle.java_statements.specs.Statements as spec;
 
 use core_tree::Expr as Core;

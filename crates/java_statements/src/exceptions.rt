@@ -2,7 +2,7 @@
 
 ghost use Rattle.std.specs.Prelude.{◌≡◌, [], Some, flat_map, IfOk, IfErr, OnOk};
 ghost use Rattle.java_exprs.specs.Attr.{of_rule};
-ghost use Rattle.java_exprs.specs.Checks.{Allows, Refuses};
+ghost use Rattle.java_names.specs.Refusals.{Allows, Refuses};
 ghost use Rattle.java_exprs.specs.Lookups.{class_named};
 ghost use Rattle.java_names.specs.Types as types;
 ghost use Rattle.java_statements.specs.Statements as spec;

@@ -10,7 +10,7 @@ use java_exprs::Environment;
 use java_exprs::arguments::fit;
 use java_exprs::expression::value;
 use java_exprs::fault::fault;
-use java_exprs::forms::is_void;
+use java_denotes::forms::is_void;
 use java_names::Scope;
 use java_syntax::{CheckError, Expr};
 use sqlite_items::Boxed;

@@ -1,7 +1,7 @@
 //! Statements, and the body of a method or a constructor (JLS 14).
 
 ghost use Rattle.std.specs.Prelude.{◌≡◌, [], map, IfOk, IfErr};
-ghost use Rattle.java_exprs.specs.Checks.{Refuses};
+ghost use Rattle.java_names.specs.Refusals.{Refuses};
 ghost use Rattle.java_statements.specs.Effects.{sequence};
 ghost use Rattle.java_statements.specs.Outcomes.{Gives};
 ghost use Rattle.java_statements.specs.Statements.{effect};

@@ -9,9 +9,10 @@ use Rattle.java_syntax.specs.declared.class.Member.{Member}
 use Rattle.java_syntax.specs.declared.class.ClassTree.{ClassTree}
 use Rattle.java_syntax.specs.declared.class.FileTree.{FileTree}
 use Rattle.java_exprs.specs.declared.environment.Environment.{Environment}
-use Rattle.java_exprs.specs.Checks.{Refuses}
-use Rattle.java_exprs.proofs.RulesLemmas.{refuses_left, refuses_right}
-use Rattle.java_types.specs.Files.{all_own_fields, built_in_fields, first_class, member_faults, of_members, own_field, own_fields}
+use Rattle.java_names.specs.Refusals.{Refuses}
+use Rattle.java_names.proofs.RefusalLemmas.{refuses_left, refuses_right}
+use Rattle.java_types.specs.Files.{all_own_fields, built_in_fields, member_faults, of_members, own_field, own_fields}
+use Rattle.java_names.specs.BuiltIn.{first_class}
 
 -- the fields of a class, where these are those of all classes
 abbrev fields_at : List (List Field) → ℕ → List Field

@@ -7,7 +7,7 @@ use Rattle.token_reading.specs.declared.fault.CheckError.TheVariants as error
 use Rattle.java_syntax.specs.declared.class.Member.{Member}
 use Rattle.java_syntax.specs.declared.class.Member.TheVariants as member
 use Rattle.java_syntax.specs.declared.class.ClassTree.{ClassTree}
-use Rattle.java_exprs.specs.Checks.{Has, Refuses}
+use Rattle.java_names.specs.Refusals.{Has, Refuses}
 use Rattle.java_types.specs.Answers.{is_constructor}
 use Rattle.java_types.specs.Files.{is_maker, where_none, of_members, then_faults}
 

@@ -9,8 +9,8 @@ use Rattle.java_syntax.specs.declared.class.Member.{Member}
 use Rattle.java_syntax.specs.declared.class.ClassTree.{ClassTree}
 use Rattle.java_exprs.specs.declared.environment.Environment.{Environment}
 use Rattle.java_types.specs.declared.members.Bodies.{Bodies}
-use Rattle.java_exprs.specs.Checks.{Refuses}
-use Rattle.java_exprs.proofs.RulesLemmas.{refuses_left, refuses_right}
+use Rattle.java_names.specs.Refusals.{Refuses}
+use Rattle.java_names.proofs.RefusalLemmas.{refuses_left, refuses_right}
 use Rattle.java_types.specs.Files.{is_maker, of_made, of_members, own_method, own_maker, where_none}
 use Rattle.java_types.specs.Gathered.{with_member, with_members, with_classes}
 

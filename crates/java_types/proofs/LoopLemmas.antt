@@ -5,8 +5,8 @@ use Rattle.token_reading.specs.declared.fault.Fault.{Fault}
 use Rattle.token_reading.specs.declared.fault.CheckError.{CheckError}
 use Rattle.java_syntax.specs.declared.class.Member.{Member}
 use Rattle.java_syntax.specs.declared.class.ClassTree.{ClassTree}
-use Rattle.java_exprs.specs.Checks.{Refuses}
-use Rattle.java_exprs.proofs.RulesLemmas.{refuses_left}
+use Rattle.java_names.specs.Refusals.{Refuses}
+use Rattle.java_names.proofs.RefusalLemmas.{refuses_left}
 use Rattle.java_types.specs.Files.{of_members, of_made, where_none, is_maker}
 
 -- the faults of a class, where the rest of the classes begins with it

@@ -11,12 +11,16 @@ use Rattle.java_syntax.specs.declared.class.Member.TheVariants as member
 use Rattle.java_names.specs.declared.scope.Scope.{Scope}
 use Rattle.java_exprs.specs.declared.environment.Environment.{Environment}
 use Rattle.java_exprs.specs.Attr.{of_rule, values_faults}
-use Rattle.java_exprs.specs.Checks.{Refuses, attr}
-use Rattle.java_exprs.proofs.RulesLemmas.{refuses_left, refuses_right, refuses_here, refuses_there, both_places}
+use Rattle.java_names.specs.Refusals.{Refuses}
+use Rattle.java_exprs.specs.Checks.{attr}
+use Rattle.java_names.proofs.RefusalLemmas.{refuses_left, refuses_right}
+use Rattle.java_exprs.proofs.RulesLemmas.{refuses_here, refuses_there, both_places}
 use Rattle.java_statements.specs.Effects.{sequence}
 use Rattle.java_statements.specs.Statements.{effect, exception_10}
-use Rattle.java_types.specs.Declarations.{answer_10, params_10, with_params, method_scope, maker_scope, declaration_faults}
-use Rattle.java_types.specs.Bodies.{beginning, parent_faults, maker_effects, given_of, params_scope}
+use Rattle.java_types.specs.Declarations.{answer_10, params_10, with_params, declaration_faults}
+use Rattle.java_names.specs.Scope.{method_scope, maker_scope}
+use Rattle.java_names.specs.Beginnings.{beginning}
+use Rattle.java_types.specs.Bodies.{parent_faults, maker_effects, given_of, params_scope}
 use Rattle.java_types.specs.Files.{member_faults}
 use Rattle.java_types.specs.Answers.{faults_in}
 
@@ -26,11 +30,11 @@ among_10 as_first ps more others e h =
     subst (λ fs. Refuses fs e) (sym (both_places 10 as_first (ps ++ more) others ∙ ap (of_rule 10 as_first) (both_places 10 ps more others)))
     (refuses_there 10 as_first (of_rule 10 ps (of_rule 10 more others)) e (refuses_here 10 ps (of_rule 10 more others) e h))
 
-module _ (env : Environment) (c : ℕ) (m : MethodTree) (ps : List ParamTree) (s : Scope) (e : CheckError) (params_are : ps ≡ m.params) (scope_is : s ≡ method_scope env c m) where
+module _ (env : Environment) (c : ℕ) (m : MethodTree) (ps : List ParamTree) (s : Scope) (e : CheckError) (params_are : ps ≡ m.params) (scope_is : s ≡ method_scope env.symbols c m) where
   pub method_params_refused : Refuses (of_rule 10 (params_10 env ps s) []) e → Refuses (faults_in env c (member.Method m)) e
   method_params_refused h =
       refuses_left (declaration_faults env c (member.Method m)) (member_faults env c (member.Method m)) e
-      (among_10 (answer_10 env m.answer) (params_10 env m.params (method_scope env c m)) (flat_map (exception_10 env) m.throws) _ e
+      (among_10 (answer_10 env m.answer) (params_10 env m.params (method_scope env.symbols c m)) (flat_map (exception_10 env) m.throws) _ e
       (subst (λ (t : Scope). Refuses (of_rule 10 (params_10 env m.params t) []) e) scope_is (subst (λ (qs : List ParamTree). Refuses (of_rule 10 (params_10 env qs s) []) e) params_are h)))
 
   pub method_body_refused : (inside : Scope) (body : List Stmt) → inside ≡ with_params env ps s → body ≡ m.body

@@ -8,8 +8,8 @@ use Rattle.java_syntax.specs.declared.class.ClassTree.{ClassTree}
 use Rattle.class_table.specs.Members.{is_static}
 use Rattle.java_exprs.specs.declared.environment.Environment.{Environment}
 use Rattle.primitive_operators.specs.declared.scalar.Scalar.{Scalar}
-use Rattle.java_exprs.specs.Checks.{Refuses}
-use Rattle.java_exprs.proofs.RulesLemmas.{refuses_left}
+use Rattle.java_names.specs.Refusals.{Refuses}
+use Rattle.java_names.proofs.RefusalLemmas.{refuses_left}
 use Rattle.java_types.specs.Answers.{read_in}
 use Rattle.java_types.specs.Constants.{Reading, with_constants, constant_faults, read_member, read_members, read_classes}
 

@@ -14,14 +14,16 @@ use Rattle.java_names.specs.declared.scope.Scope.{Scope}
 use Rattle.java_exprs.specs.declared.environment.Environment.{Environment}
 use Rattle.primitive_operators.specs.declared.scalar.Scalar.{Scalar}
 use Rattle.java_exprs.specs.Attr.{of_rule}
-use Rattle.java_exprs.specs.Checks.{Refuses}
+use Rattle.java_names.specs.Refusals.{Refuses}
 use Rattle.java_exprs.specs.Lookups.{unknown_type}
-use Rattle.java_exprs.proofs.RulesLemmas.{refuses_left}
+use Rattle.java_names.proofs.RefusalLemmas.{refuses_left}
 use Rattle.java_statements.specs.Statements.{again_10, exception_10, exception_11}
-use Rattle.java_types.specs.Declarations.{answer_10, params_10, with_param, method_scope, maker_scope, method_words_20, maker_words_20, declaration_faults}
+use Rattle.java_types.specs.Declarations.{answer_10, params_10, with_param, method_words_20, maker_words_20, declaration_faults}
+use Rattle.java_names.specs.Scope.{method_scope, maker_scope}
 use Rattle.java_types.specs.Constants.{read_classes, with_constants}
 use Rattle.java_types.specs.Answers.{faults_in, read_in}
-use Rattle.java_types.specs.Files.{first_class, first_env, env_of, reading_of, of_members, of_made, member_faults, made_faults, declared_faults, body_faults, faults_of, program_in, program_of}
+use Rattle.java_names.specs.BuiltIn.{first_class}
+use Rattle.java_types.specs.Files.{first_env, env_of, reading_of, of_members, of_made, member_faults, made_faults, declared_faults, body_faults, faults_of, program_in, program_of}
 use Rattle.java_types.proofs.FileLemmas.{refuses_declared, refuses_first_of, refuses_second, then_body}
 
 -- ---- declarations read no constants
@@ -37,7 +39,7 @@ module _ (env : Environment) (cs : List (ℕ × Option Scalar)) where
   declaration_same c (member.Method m) =
       ap (λ (places : List ℕ). of_rule 10 (answer_10 env m.answer ++ (places ++ flat_map (exception_10 env) m.throws))
       (of_rule 11 (flat_map (exception_11 env) m.throws) (of_rule 20 (method_words_20 m.mods m.name.at) [])))
-      (params_same m.params (method_scope env c m))
+      (params_same m.params (method_scope env.symbols c m))
   declaration_same c (member.Maker m) =
       ap (λ (places : List ℕ). of_rule 10 (places ++ flat_map (exception_10 env) m.throws)
       (of_rule 11 (flat_map (exception_11 env) m.throws) (of_rule 20 (maker_words_20 m.mods m.name.at) [])))

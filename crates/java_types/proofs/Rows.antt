@@ -8,10 +8,10 @@ use Rattle.token_reading.specs.declared.name.TypeTree.{TypeTree}
 use Rattle.java_syntax.specs.declared.class.Modifier.TheVariants as word
 use Rattle.java_syntax.specs.declared.class.FieldTree.{FieldTree}
 use Rattle.java_names.specs.Scope.{declared}
-use Rattle.java_exprs.specs.declared.typed.Denotation.TheVariants as denotes
+use Rattle.java_denotes.specs.declared.denotation.Denotation.TheVariants as denotes
 use Rattle.java_exprs.specs.declared.typed.Form.TheVariants as form
 use Rattle.java_exprs.specs.declared.folded.Folded.TheVariants as folded
-use Rattle.java_exprs.proofs.TypeLemmas.{assignable-Text}
+use Rattle.java_denotes.proofs.TypeLemmas.{assignable-Text}
 use Rattle.java_types.specs.Declarations.{field_words_20, maker_words_20, method_words_20, constant_type_20, params_10}
 use Rattle.java_types.specs.Constants.{is_initialiser}
 use Rattle.java_types.specs.Bodies.{parent_faults}

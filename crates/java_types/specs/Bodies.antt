@@ -14,12 +14,12 @@ use Rattle.java_syntax.specs.declared.statement.Stmt.TheOpen.{Stmt-F}
 use Rattle.java_syntax.specs.declared.class.FieldTree.{FieldTree}
 use Rattle.java_syntax.specs.declared.class.MethodTree.{MethodTree}
 use Rattle.java_syntax.specs.declared.class.MakerTree.{MakerTree}
-use Rattle.class_table.specs.Members.{is_static}
+use Rattle.class_table.specs.Members.{is_static, types_of}
 use Rattle.java_names.specs.declared.scope.Scope.{Scope}
 use Rattle.java_names.specs.declared.symbol.MakerSymbol.{MakerSymbol}
+use Rattle.java_names.specs.Beginnings.{beginning}
 use Rattle.java_names.specs.Lookups.{is_accessible}
 use Rattle.java_names.specs.Types.{declared_type, declared_types, answer_type}
-use Rattle.class_table.specs.Members.{types_of}
 use Rattle.java_exprs.specs.declared.environment.Environment.{Environment}
 use Rattle.java_exprs.specs.Attr.{Attr, unless, of_rule, value_faults, values_faults}
 use Rattle.java_exprs.specs.Lookups.{superclass_of, maker_of}
@@ -28,7 +28,8 @@ use Rattle.java_exprs.specs.Rules.{wants_type, wants_each}
 use Rattle.java_exprs.specs.Checks.{attr}
 use Rattle.java_statements.specs.Effects.{Effects, sequence}
 use Rattle.java_statements.specs.Statements.{effect}
-use Rattle.java_types.specs.Declarations.{method_scope, maker_scope, with_params}
+use Rattle.java_names.specs.Scope.{method_scope, maker_scope}
+use Rattle.java_types.specs.Declarations.{with_params}
 
 -- ---- instance fields
 
@@ -58,7 +59,7 @@ body_effects env body s = sequence (map (effect env) body) s
 -- ---- methods
 
 abbrev pub method_effects : Environment → ℕ → MethodTree → Effects
-method_effects env c m = body_effects env m.body (with_params env m.params (method_scope env c m))
+method_effects env c m = body_effects env m.body (with_params env m.params (method_scope env.symbols c m))
 
 abbrev pub core_method : Environment → ℕ → MethodTree → Method
 core_method env c m = record {
@@ -106,24 +107,6 @@ abbrev pub core_parent : Environment → ℕ → List Attr → Parent
 core_parent env c given = option_map_or (core_parent_of env given) (superclass_of env c) parent.Plain
 
 -- ---- constructors
-
--- how a constructor's body begins: the place at which the superclass's constructor is called, the arguments, and the statements behind
-pub record Beginning : Type 0 where
-  pub at : ℕ
-  pub given : List Expr
-  pub rest : List Stmt
-
--- a body that doesn't begin with `super(..)` calls the constructor without parameters, at the constructor's name (JLS 8.8.7)
-abbrev pub implicit : ℕ → List Stmt → Beginning
-implicit at body = record { at = at; given = []; rest = body }
-
-abbrev pub beginning_node : ℕ → List Stmt → List Stmt → Stmt-F Stmt CatchTree → Beginning
-beginning_node at body rest (Stmt-F.Super word given) = record { at = word; given = given; rest = rest }
-beginning_node at body rest _ = implicit at body
-
-abbrev pub beginning : ℕ → List Stmt → Beginning
-beginning at [] = implicit at []
-beginning at (s ∷ rest) = beginning_node at (s ∷ rest) rest (out-Stmt s)
 
 -- a constructor's scope with its parameters
 abbrev pub params_scope : Environment → ℕ → MakerTree → Scope

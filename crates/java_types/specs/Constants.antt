@@ -17,7 +17,7 @@ use Rattle.java_exprs.specs.Attr.{unless, of_rule, value_faults}
 use Rattle.java_exprs.specs.Rules.{wants_type}
 use Rattle.java_exprs.specs.Checks.{attr}
 use Rattle.java_exprs.specs.Constants.{folded_of, literal_of}
-use Rattle.java_types.specs.Declarations.{constant_scope}
+use Rattle.java_names.specs.Scope.{constant_scope}
 
 -- the constants before a place of the file by the tokens of their names, with their values, and what they break
 pub record Reading : Type 0 where

@@ -18,7 +18,7 @@ use Rattle.java_syntax.specs.declared.class.Member.{Member}
 use Rattle.java_syntax.specs.declared.class.Member.TheVariants as member
 use Rattle.class_table.specs.Members.{is_static}
 use Rattle.java_names.specs.declared.scope.Scope.{Scope}
-use Rattle.java_names.specs.Scope.{first_scope, declared}
+use Rattle.java_names.specs.Scope.{declared, maker_scope, method_scope}
 use Rattle.java_names.specs.Types.{declared_type, answer_type}
 use Rattle.java_exprs.specs.declared.environment.Environment.{Environment}
 use Rattle.java_exprs.specs.Attr.{unless, only_if, of_rule}
@@ -97,21 +97,9 @@ params_10 env (p ∷ ps) s = (unknown_type env p.ty ++ again_10 s p.name) ++ par
 abbrev pub answer_10 : Environment → Option TypeTree → List ℕ
 answer_10 env t = option_map_or (unknown_type env) t []
 
--- the scope of a method's body, without and with its parameters
-abbrev pub method_scope : Environment → ℕ → MethodTree → Scope
-method_scope env c m = first_scope c (is_static m.mods) (answer_type env.symbols.names m.answer)
-
--- the scope of a constructor's body, and of an instance field's initialiser, which has no parameters
-abbrev pub maker_scope : ℕ → Scope
-maker_scope c = first_scope c false ty.Void
-
--- the scope of a constant's initialiser
-abbrev pub constant_scope : ℕ → Scope
-constant_scope c = first_scope c true ty.Void
-
 abbrev pub declared_10 : Environment → ℕ → Member → List ℕ
 declared_10 env c (member.Field f) = unknown_type env f.ty
-declared_10 env c (member.Method m) = answer_10 env m.answer ++ (params_10 env m.params (method_scope env c m) ++ flat_map (exception_10 env) m.throws)
+declared_10 env c (member.Method m) = answer_10 env m.answer ++ (params_10 env m.params (method_scope env.symbols c m) ++ flat_map (exception_10 env) m.throws)
 declared_10 env c (member.Maker m) = params_10 env m.params (maker_scope c) ++ flat_map (exception_10 env) m.throws
 declared_10 env c member.Empty = []
 

@@ -25,10 +25,6 @@ use Rattle.java_types.specs.Declarations.{declaration_faults}
 use Rattle.java_types.specs.Constants.{Reading, read_classes, with_constants}
 use Rattle.java_types.specs.Bodies.{field_faults, method_effects, maker_faults, parent_faults, core_field, core_method, core_maker, made_maker}
 
--- the number of the first class of the file
-abbrev pub first_class : ℕ
-first_class = 18
-
 -- ---- what is known before the bodies are read
 
 -- without constants

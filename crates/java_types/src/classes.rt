@@ -2,12 +2,11 @@
 
 ghost use Rattle.std.specs.Prelude.{◌≡◌, ◌∷◌, ◌++◌, [], IfErr, IfOk, OnOk, flat_map, reverse, slice_get, unwrap_or};
 ghost use Rattle.core_tree.specs.BuiltIn.{message_field};
-ghost use Rattle.java_exprs.specs.Checks.{Refuses};
+ghost use Rattle.java_names.specs.Refusals.{Refuses};
 ghost use Rattle.java_types.specs.Files as spec;
 
 use crate::fields::field;
-use crate::modifiers::is_static;
-use crate::numbers::{FIRST_CLASS, following};
+use java_names::{is_static, FIRST_CLASS, following};
 use class_table::ClassRow;
 use core_tree::{Class, Field, Ty};
 use java_exprs::Environment;

@@ -2,16 +2,14 @@
 
 ghost use Rattle.std.specs.Prelude.{◌≡◌, ◌∷◌, ◌++◌, [], IfErr, IfOk, OnOk};
 ghost use Rattle.java_exprs.specs.Attr.{of_rule, unless};
-ghost use Rattle.java_exprs.specs.Checks.{Allows, Refuses};
+ghost use Rattle.java_names.specs.Refusals.{Allows, Refuses};
 ghost use Rattle.java_exprs.specs.Constants.{folded_of, literal_of};
 ghost use Rattle.java_types.specs.Answers.{read_in};
 ghost use Rattle.java_types.specs.Constants as spec;
-ghost use Rattle.java_types.specs.Declarations.{constant_scope};
-ghost use Rattle.java_types.specs.Files.{first_class};
+ghost use Rattle.java_names.specs.Scope.{constant_scope};
+ghost use Rattle.java_names.specs.BuiltIn.{first_class};
 
-use crate::modifiers::is_static;
-use crate::numbers::{FIRST_CLASS, following};
-use crate::scopes::constant_scope;
+use java_names::{is_static, FIRST_CLASS, following, constant_scope};
 use crate::types::declared_type;
 use java_constants::fold;
 use java_exprs::arguments::fit;

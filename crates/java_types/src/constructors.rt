@@ -3,58 +3,23 @@
 ghost use Rattle.std.specs.Prelude.{◌≡◌, ◌++◌, [], IfErr, IfOk, OnOk, map};
 ghost use Rattle.java_syntax.specs.declared.class.Member.TheVariants as member;
 ghost use Rattle.java_exprs.specs.Attr.{values_faults};
-ghost use Rattle.java_exprs.specs.Checks.{Refuses, attr};
+ghost use Rattle.java_names.specs.Refusals.{Refuses};
+ghost use Rattle.java_exprs.specs.Checks.{attr};
 ghost use Rattle.java_types.specs.Bodies as spec;
 ghost use Rattle.java_types.specs.Answers.{faults_in};
 
 use crate::parameters::declare_params;
-use crate::scopes::maker_scope;
 use crate::slots::other_locals;
 use crate::superclass::parent;
 use crate::types::param_types;
 use core_tree::{Maker, Parent};
 use java_exprs::Environment;
 use java_exprs::expression::values;
-use java_names::Scope;
+use java_names::{Scope, beginning_of, maker_scope};
 use java_statements::statements::body;
-use java_syntax::{CheckError, Expr, MakerTree, Stmt};
+use java_syntax::{CheckError, Expr, MakerTree};
 use sqlite_items::Items;
 use std::alloc::Global;
-
-// How a constructor's body begins.
-#[derive(Clone, Copy, Drop)]
-struct Beginning<'a> {
-    // The token at which the superclass's constructor is called.
-    at: u32,
-    // The arguments.
-    given: &'a [Expr],
-    // The statements behind the call.
-    rest: &'a [Stmt],
-}
-
-// How a body begins whose constructor has its name at token number `at`: where it has no `super(..)`, the constructor
-// without parameters is called there.
-#[tactic(auto, using(crate::proofs::BeginningLemmas::beginnings))]
-fn beginning_of(at: u32, body: &[Stmt]) -> Beginning<'_>
-    ensures at { result.at ≡ (spec.beginning at body.now).at }
-    ensures given { result.given.now ≡ (spec.beginning at body.now).given }
-    ensures rest { result.rest.now ≡ (spec.beginning at body.now).rest }
-{
-    if let [first, rest @ ..] = body {
-        if let Stmt::Super(word, given) = first {
-            return Beginning {
-                at: *word,
-                given: given.as_slice(),
-                rest,
-            };
-        }
-    }
-    Beginning {
-        at,
-        given: &[],
-        rest: body,
-    }
-}
 
 // The call of the superclass's constructor, at token number `at` with these arguments.
 #[tactic(auto, using(java_exprs::proofs::RulesLemmas::joins, java_exprs::proofs::RulesLemmas::no_faults))]

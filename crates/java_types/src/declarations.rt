@@ -2,22 +2,21 @@
 
 ghost use Rattle.std.specs.Prelude.{◌≡◌, ◌++◌, [], flat_map};
 ghost use Rattle.java_exprs.specs.Attr.{of_rule};
-ghost use Rattle.java_exprs.specs.Checks.{Allows};
+ghost use Rattle.java_names.specs.Refusals.{Allows};
 ghost use Rattle.java_exprs.specs.Lookups as names;
 ghost use Rattle.java_types.specs.Declarations as spec;
-ghost use Rattle.java_types.specs.Files.{first_class, of_members};
+ghost use Rattle.java_names.specs.BuiltIn.{first_class};
+ghost use Rattle.java_types.specs.Files.{of_members};
 ghost use Rattle.java_syntax.specs.declared.class.Member.TheVariants as member;
 
-use crate::modifiers::{check_field_words, check_maker_words, check_method_words, is_static};
-use crate::numbers::{FIRST_CLASS, following};
+use crate::modifiers::{check_field_words, check_maker_words, check_method_words};
+use java_names::{is_static, FIRST_CLASS, following, maker_scope, method_scope, type_of};
 use crate::parameters::declare_params;
-use crate::scopes::{maker_scope, method_scope};
 use crate::types::known_type;
 use core_tree::Ty;
 use java_exprs::Environment;
 use java_exprs::fault::fault;
-use java_exprs::forms::{is_boolean, is_int, is_string};
-use java_names::type_of;
+use java_denotes::forms::{is_boolean, is_int, is_string};
 use java_statements::exceptions::{check_all_known, check_all_throwable};
 use java_syntax::{CheckError, ClassTree, FieldTree, MakerTree, Member, MethodTree, TypeTree};
 use std::alloc::Global;
@@ -98,7 +97,7 @@ fn check_method(
     ensures { Allows (spec.declaration_faults env.now class (member.Method method.now)) result }
 {
     check_answer(alloc, env, &method.answer)?;
-    let mut scope = method_scope(alloc, env, class, method)?;
+    let mut scope = method_scope(alloc, &env.symbols, class, method)?;
     declare_params(alloc, env, method.params.as_slice(), &mut scope)?;
     check_all_known(env, method.throws.as_slice())?;
     check_all_throwable(env, method.throws.as_slice())?;

@@ -2,11 +2,12 @@
 
 ghost use Rattle.std.specs.Prelude.{◌≡◌, [], IfErr, IfOk, OnOk, option_map};
 ghost use Rattle.std.specs.Option.{option_map_or};
-ghost use Rattle.java_exprs.specs.Checks.{Refuses, attr};
+ghost use Rattle.java_names.specs.Refusals.{Refuses};
+ghost use Rattle.java_exprs.specs.Checks.{attr};
 ghost use Rattle.java_types.specs.Bodies as spec;
-ghost use Rattle.java_types.specs.Declarations.{maker_scope};
+ghost use Rattle.java_names.specs.Scope.{maker_scope};
 
-use crate::scopes::maker_scope;
+use java_names::maker_scope;
 use crate::types::declared_type;
 use core_tree::{Expr, Field};
 use java_exprs::Environment;

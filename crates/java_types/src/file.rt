@@ -1,7 +1,7 @@
 //! The public call: the rules in turn, and the resolved program.
 
 ghost use Rattle.std.specs.Prelude.{◌≡◌, ◌++◌, [], IfErr, IfOk, OnOk};
-ghost use Rattle.java_exprs.specs.Checks.{Refuses};
+ghost use Rattle.java_names.specs.Refusals.{Refuses};
 ghost use Rattle.java_types.specs.Answers as answer;
 ghost use Rattle.java_types.specs.Files as spec;
 

@@ -6,8 +6,7 @@ ghost use Rattle.class_table.specs.Names.{same_name};
 ghost use Rattle.class_table.specs.Rules as rule;
 ghost use Rattle.java_types.specs.Files as spec;
 
-use crate::modifiers::is_static;
-use crate::numbers::following;
+use java_names::{is_static, following};
 use java_syntax::{BaseType, ClassTree, FileTree, Member, MethodTree, ParamTree};
 use java_tokens::Name;
 use std::alloc::AllocError;

@@ -3,7 +3,7 @@
 ghost use Rattle.std.specs.Prelude.{◌≡◌, ◌∷◌, ◌++◌, [], IfErr, IfOk, OnOk, flat_map};
 ghost use Rattle.std.specs.List.{list_any};
 ghost use Rattle.java_syntax.specs.declared.class.Member.TheVariants as member;
-ghost use Rattle.java_exprs.specs.Checks.{Allows, Refuses};
+ghost use Rattle.java_names.specs.Refusals.{Allows, Refuses};
 ghost use Rattle.java_types.specs.Answers as answer;
 ghost use Rattle.java_types.specs.Bodies as body;
 ghost use Rattle.java_types.specs.Files as spec;
@@ -12,8 +12,7 @@ ghost use Rattle.java_types.specs.Gathered as gathered;
 use crate::constructors::{made_maker, maker};
 use crate::fields::field;
 use crate::methods::method;
-use crate::modifiers::is_static;
-use crate::numbers::{FIRST_CLASS, following};
+use java_names::{is_static, FIRST_CLASS, following};
 use core_tree::{Maker, Method};
 use java_exprs::Environment;
 use java_syntax::{CheckError, ClassTree, FieldTree, Member};

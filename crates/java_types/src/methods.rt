@@ -2,13 +2,12 @@
 
 ghost use Rattle.std.specs.Prelude.{◌≡◌, [], IfErr, IfOk, OnOk};
 ghost use Rattle.java_syntax.specs.declared.class.Member.TheVariants as member;
-ghost use Rattle.java_exprs.specs.Checks.{Refuses};
+ghost use Rattle.java_names.specs.Refusals.{Refuses};
 ghost use Rattle.java_types.specs.Bodies as spec;
 ghost use Rattle.java_types.specs.Answers.{faults_in};
 
-use crate::modifiers::is_static;
+use java_names::{is_static, method_scope};
 use crate::parameters::declare_params;
-use crate::scopes::method_scope;
 use crate::slots::other_locals;
 use crate::types::{answer_type, param_types};
 use core_tree::Method;
@@ -36,7 +35,7 @@ pub fn method(
     let name = text_of(alloc, tree.name.name.characters())?;
     let params = param_types(alloc, env, tree.params.as_slice())?;
     let answer = answer_type(alloc, env, &tree.answer)?;
-    let mut scope = method_scope(alloc, env, class, tree)?;
+    let mut scope = method_scope(alloc, &env.symbols, class, tree)?;
     declare_params(alloc, env, tree.params.as_slice(), &mut scope)?;
     let steps = body(alloc, env, &mut scope, tree.body.as_slice())?;
     let locals = other_locals(alloc, &scope, tree.params.len())?;

@@ -4,21 +4,12 @@ ghost use Rattle.std.specs.Prelude.{◌≡◌, [], filter, length};
 ghost use Rattle.std.specs.List.{list_any};
 ghost use Rattle.class_table.specs.Members as member;
 ghost use Rattle.java_exprs.specs.Attr.{of_rule};
-ghost use Rattle.java_exprs.specs.Checks.{Allows};
+ghost use Rattle.java_names.specs.Refusals.{Allows};
 ghost use Rattle.java_types.specs.Declarations as spec;
 
 use java_exprs::fault::fault;
+use java_names::is_static;
 use java_syntax::{CheckError, Modifier, Mods};
-
-/// Whether a member is static (JLS 8.3.1.1, 8.4.3.2).
-pub fn is_static(mods: &Mods) -> bool
-    ensures { result ≡ member.is_static mods.now }
-{
-    mods.words
-        .as_slice()
-        .iter()
-        .any(|word| matches!(word, Modifier::Static))
-}
 
 // Whether a member is final.
 fn is_final(mods: &Mods) -> bool

@@ -2,7 +2,7 @@
 
 ghost use Rattle.std.specs.Prelude.{◌≡◌, ◌++◌, [], None, OnOk};
 ghost use Rattle.java_exprs.specs.Attr.{of_rule};
-ghost use Rattle.java_exprs.specs.Checks.{Allows};
+ghost use Rattle.java_names.specs.Refusals.{Allows};
 ghost use Rattle.java_exprs.specs.Lookups as names;
 ghost use Rattle.java_names.specs.Scope as scoped;
 ghost use Rattle.java_types.specs.Declarations as spec;

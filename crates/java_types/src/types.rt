@@ -3,7 +3,7 @@
 ghost use Rattle.std.specs.Prelude.{◌≡◌, [], IfErr, IfOk, OnOk};
 ghost use Rattle.class_table.specs.Members.{types_of};
 ghost use Rattle.java_exprs.specs.Attr.{of_rule};
-ghost use Rattle.java_exprs.specs.Checks.{Refuses};
+ghost use Rattle.java_names.specs.Refusals.{Refuses};
 ghost use Rattle.java_exprs.specs.Lookups as names;
 ghost use Rattle.java_names.specs.Types as spec;
 

@@ -11,7 +11,7 @@ use Rattle.java_tokens.proofs.OneReading.{one_list, one_fault, no_list_with_faul
 use Rattle.token_reading.specs.declared.fault.Fault.{Fault}
 use Rattle.java_syntax.specs.declared.class.FileTree.{FileTree}
 use Rattle.java_syntax.specs.Spells.{Spells}
-use Rattle.java_exprs.specs.Checks.{Has}
+use Rattle.java_names.specs.Refusals.{Has}
 use Rattle.java_source.specs.declared.refusal.SourceRefusal.{SourceRefusal}
 use Rattle.java_source.specs.declared.refusal.SourceRefusal.TheVariants as refusal
 use Rattle.java_source.specs.declared.refusal.TokenKindError.{TokenKindError}

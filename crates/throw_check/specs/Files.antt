@@ -1,5 +1,5 @@
 -- Where a file breaks rule 23: the points of checked exceptions that are neither caught nor declared (JLS 11.2.3).
-use Rattle.std.specs.Prelude.{ℕ, ◌+◌, not, ◌&&◌, List, [], ◌∷◌, ◌++◌, map, filter, flat_map, length, Option, option_and_then, if◌then◌else◌}
+use Rattle.std.specs.Prelude.{ℕ, suc, not, ◌&&◌, List, [], ◌∷◌, ◌++◌, map, filter, flat_map, length, Option, option_and_then, if◌then◌else◌}
 use Rattle.std.specs.List.{filter_map}
 use Rattle.token_reading.specs.declared.fault.Fault.{Fault}
 use Rattle.token_reading.specs.declared.name.Ident.{Ident}
@@ -113,7 +113,7 @@ class_faults symbols c k = faults_in symbols c (flat_map (maker_classes symbols)
 -- the classes from number c on
 unfoldable pub faults_from : Symbols → ℕ → List ClassTree → List Fault
 faults_from symbols c [] = []
-faults_from symbols c (k ∷ ks) = class_faults symbols c k ++ faults_from symbols (c + 1) ks
+faults_from symbols c (k ∷ ks) = class_faults symbols c k ++ faults_from symbols (suc c) ks
 
 -- ---- the file
 

@@ -9,7 +9,7 @@ use Rattle.core_tree.specs.Typing.{Scope as CoreScope, fits, all_fit, type_of}
 use Rattle.core_tree.specs.WellTyped.{is_value}
 use Rattle.java_exprs.specs.declared.environment.Environment.{Environment}
 use Rattle.java_exprs.specs.Attr.{Attr, value_faults, values_faults}
-use Rattle.java_exprs.specs.Types as rules
+use Rattle.java_denotes.specs.Types as rules
 use Rattle.java_exprs.specs.Resolved.{cores}
 use Rattle.java_exprs.specs.Rules.{wants, wants_type, wants_each}
 use Rattle.typing_law.specs.Agrees.{Agrees}

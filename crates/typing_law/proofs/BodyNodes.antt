@@ -24,9 +24,10 @@ use Rattle.java_syntax.specs.declared.expression.Expr.{Expr}
 use Rattle.java_syntax.specs.declared.statement.Stmt.TheOpen.{Stmt-F}
 use Rattle.java_names.specs.declared.scope.Scope.{Scope}
 use Rattle.java_exprs.specs.declared.environment.Environment.{Environment}
-use Rattle.java_exprs.specs.declared.typed.Denotation.{Denotation}
-use Rattle.java_exprs.specs.declared.typed.Denotation.TheVariants as denotes
-use Rattle.java_exprs.specs.Attr.{Attr, value_type, only_if, of_rule, named_10, bare_19, is_no_value, value_faults}
+use Rattle.java_denotes.specs.declared.denotation.Denotation.{Denotation}
+use Rattle.java_denotes.specs.declared.denotation.Denotation.TheVariants as denotes
+use Rattle.java_exprs.specs.Attr.{Attr, only_if, of_rule, named_10, bare_19, is_no_value, value_faults}
+use Rattle.java_denotes.specs.Members.{value_type}
 use Rattle.java_exprs.specs.Rules.{wants, wants_type, both_11, bitwise_11}
 use Rattle.java_exprs.specs.Checks.{attr}
 use Rattle.java_statements.specs.Effects.{StmtNode}

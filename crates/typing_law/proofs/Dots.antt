@@ -17,16 +17,19 @@ use Rattle.java_syntax.specs.declared.expression.Expr.TheOpen.{Expr-F}
 use Rattle.class_table.specs.Names.{same_name}
 use Rattle.java_names.specs.declared.scope.Scope.{Scope}
 use Rattle.java_exprs.specs.declared.environment.Environment.{Environment}
-use Rattle.java_exprs.specs.declared.typed.Denotation.{Denotation}
-use Rattle.java_exprs.specs.declared.typed.Denotation.TheVariants as denotes
+use Rattle.java_denotes.specs.declared.denotation.Denotation.{Denotation}
+use Rattle.java_denotes.specs.declared.denotation.Denotation.TheVariants as denotes
 use Rattle.java_exprs.specs.declared.typed.Form.TheVariants as form
-use Rattle.java_exprs.specs.declared.through.Through.TheVariants as through
-use Rattle.java_exprs.specs.Attr.{Attr, value_type, unless, only_if, is_nothing, prefix_faults, value_faults, values_faults}
-use Rattle.java_exprs.specs.Types.{is_printed}
+use Rattle.java_denotes.specs.declared.through.Through.TheVariants as through
+use Rattle.java_exprs.specs.Attr.{Attr, unless, only_if, is_nothing, prefix_faults, value_faults, values_faults}
+use Rattle.java_denotes.specs.Members.{value_type}
+use Rattle.java_exprs.specs.Rules.{is_printed, wants, wants_type, has_members, naming_10, naming_11, naming_14, calling_10, calling_11, calling_12, calling_14, field_10, method_10, is_text_method, prefix_11, library_11, library_12, text_12, print_12}
 use Rattle.java_exprs.specs.Members.{Calling, naming_behind, calling_behind}
-use Rattle.java_exprs.specs.Denotes.{member_denotes, member_form, call_denotes, library_field, library_method, text_method, length_name, equals_name, out_name, println_name, is_print}
+use Rattle.java_denotes.specs.Denotes.{member_denotes, call_denotes, library_field, library_method, text_method}
+use Rattle.java_exprs.specs.Denotes.{member_form}
+use Rattle.java_denotes.specs.Library.{length_name, equals_name, out_name, println_name, is_print}
 use Rattle.java_exprs.specs.Resolved.{cores, first_core, member_core, call_core, library_core, text_core}
-use Rattle.java_exprs.specs.Rules.{wants, wants_type, has_members, is_array, naming_10, naming_11, naming_14, calling_10, calling_11, calling_12, calling_14, field_10, method_10, is_text_method, prefix_11, library_11, library_12, text_12, print_12}
+use Rattle.java_denotes.specs.Types.{is_array}
 use Rattle.java_exprs.specs.Checks.{attr_at}
 use Rattle.typing_law.specs.Means.{HasType, Means, MeansForm}
 use Rattle.typing_law.specs.Agrees.{Agrees, AgreesOnScope}
@@ -75,8 +78,8 @@ module _ (env : Environment) (p : Program) (agrees : Agrees env p) (s : Scope) (
   -- ---- fields
 
   record FieldIsRight (o : Attr) (f : Ident) (d : Option Denotation) : Type 0 where
-    means : Means p cs (option_map_or (member_core env) (naming_behind o f d) (view.Length o.core)) (option_map_or (member_denotes env) (naming_behind o f d) (library_field f.name d))
-    form : MeansForm p cs (option_map_or (member_core env) (naming_behind o f d) (view.Length o.core)) (option_map_or (member_denotes env) (naming_behind o f d) (library_field f.name d)) (option_map_or (member_form env) (naming_behind o f d) form.Other)
+    means : Means p cs (option_map_or (member_core env) (naming_behind o f d) (view.Length o.core)) (option_map_or (member_denotes env.symbols) (naming_behind o f d) (library_field f.name d))
+    form : MeansForm p cs (option_map_or (member_core env) (naming_behind o f d) (view.Length o.core)) (option_map_or (member_denotes env.symbols) (naming_behind o f d) (library_field f.name d)) (option_map_or (member_form env) (naming_behind o f d) form.Other)
 
   length_right : (o : Attr) (f : Ident) (t : Ty) → HasType p cs o.core t → IsTrue (is_array t && same_name f.name length_name) → Means p cs (view.Length o.core) (library_field f.name (Some (denotes.Value t)))
   length_right o f t has is =
@@ -106,14 +109,14 @@ module _ (env : Environment) (p : Program) (agrees : Agrees env p) (s : Scope) (
           option_map_or (naming_11 env) (option_map (λ c. record { through = through.Object; class = c; object = o.core; name = f }) c) (prefix_11 o) ≡ [] →
           option_map_or (naming_14 env s) (option_map (λ c. record { through = through.Object; class = c; object = o.core; name = f }) c) [] ≡ [] → FieldIsRight o f (Some (denotes.Value t))
       cases None is none_10 none_11 none_14 = record {
-        means = subst (λ c. Means p cs (option_map_or (member_core env) (option_map (λ c. record { through = through.Object; class = c; object = o.core; name = f }) c) (view.Length o.core)) (option_map_or (member_denotes env) (option_map (λ c. record { through = through.Object; class = c; object = o.core; name = f }) c) (library_field f.name (Some (denotes.Value t))))) (sym is)
+        means = subst (λ c. Means p cs (option_map_or (member_core env) (option_map (λ c. record { through = through.Object; class = c; object = o.core; name = f }) c) (view.Length o.core)) (option_map_or (member_denotes env.symbols) (option_map (λ c. record { through = through.Object; class = c; object = o.core; name = f }) c) (library_field f.name (Some (denotes.Value t))))) (sym is)
             (library_right o f t is means said none_10 none_11);
-        form = subst (λ c. MeansForm p cs (option_map_or (member_core env) (option_map (λ c. record { through = through.Object; class = c; object = o.core; name = f }) c) (view.Length o.core)) (option_map_or (member_denotes env) (option_map (λ c. record { through = through.Object; class = c; object = o.core; name = f }) c) (library_field f.name (Some (denotes.Value t)))) (option_map_or (member_form env) (option_map (λ c. record { through = through.Object; class = c; object = o.core; name = f }) c) form.Other)) (sym is) tt;
+        form = subst (λ c. MeansForm p cs (option_map_or (member_core env) (option_map (λ c. record { through = through.Object; class = c; object = o.core; name = f }) c) (view.Length o.core)) (option_map_or (member_denotes env.symbols) (option_map (λ c. record { through = through.Object; class = c; object = o.core; name = f }) c) (library_field f.name (Some (denotes.Value t)))) (option_map_or (member_form env) (option_map (λ c. record { through = through.Object; class = c; object = o.core; name = f }) c) form.Other)) (sym is) tt;
       }
       cases (Some c) is none_10 none_11 none_14 =
           let right = names.naming_right env p agrees s cs inside f through.Object c o.core (object_typed o.core t c means is) none_10 none_11 none_14 in record {
-            means = subst (λ c. Means p cs (option_map_or (member_core env) (option_map (λ c. record { through = through.Object; class = c; object = o.core; name = f }) c) (view.Length o.core)) (option_map_or (member_denotes env) (option_map (λ c. record { through = through.Object; class = c; object = o.core; name = f }) c) (library_field f.name (Some (denotes.Value t))))) (sym is) right.means;
-            form = subst (λ c. MeansForm p cs (option_map_or (member_core env) (option_map (λ c. record { through = through.Object; class = c; object = o.core; name = f }) c) (view.Length o.core)) (option_map_or (member_denotes env) (option_map (λ c. record { through = through.Object; class = c; object = o.core; name = f }) c) (library_field f.name (Some (denotes.Value t)))) (option_map_or (member_form env) (option_map (λ c. record { through = through.Object; class = c; object = o.core; name = f }) c) form.Other)) (sym is) right.form;
+            means = subst (λ c. Means p cs (option_map_or (member_core env) (option_map (λ c. record { through = through.Object; class = c; object = o.core; name = f }) c) (view.Length o.core)) (option_map_or (member_denotes env.symbols) (option_map (λ c. record { through = through.Object; class = c; object = o.core; name = f }) c) (library_field f.name (Some (denotes.Value t))))) (sym is) right.means;
+            form = subst (λ c. MeansForm p cs (option_map_or (member_core env) (option_map (λ c. record { through = through.Object; class = c; object = o.core; name = f }) c) (view.Length o.core)) (option_map_or (member_denotes env.symbols) (option_map (λ c. record { through = through.Object; class = c; object = o.core; name = f }) c) (library_field f.name (Some (denotes.Value t)))) (option_map_or (member_form env) (option_map (λ c. record { through = through.Object; class = c; object = o.core; name = f }) c) form.Other)) (sym is) right.form;
           }
 
   pub field_right : (o : Attr) (f : Ident) → Holds p cs o → Holds p cs (attr_at env s (Expr-F.Field o f))
@@ -129,7 +132,7 @@ module _ (env : Environment) (p : Program) (agrees : Agrees env p) (s : Scope) (
   of_object o m xs c = record { through = through.Object; class = c; object = o.core; name = m; arguments = xs }
 
   abbrev MethodIsRight : Attr → Ident → List Attr → Option Denotation → Type 0
-  MethodIsRight o m xs d = Means p cs (option_map_or (call_core env) (calling_behind o m xs d) (library_core o m.name xs d)) (option_map_or (call_denotes env) (calling_behind o m xs d) (library_method m.name xs d))
+  MethodIsRight o m xs d = Means p cs (option_map_or (call_core env) (calling_behind o m xs d) (library_core o m.name xs d)) (option_map_or (call_denotes env.symbols) (calling_behind o m xs d) (library_method m.name xs d))
 
   -- a print's argument has a text
   print_right : (o : Attr) (m : Ident) (xs : List Attr) → AllHold p cs xs → values_faults xs ≡ [] → IsTrue (is_print m.name) → library_11 env o m xs (Some denotes.Output) ≡ [] → print_12 m xs ≡ [] →
@@ -210,10 +213,10 @@ module _ (env : Environment) (p : Program) (agrees : Agrees env p) (s : Scope) (
           option_map_or (calling_12 env) (option_map (of_object o m xs) c) (library_12 m xs (Some (denotes.Value t))) ≡ [] →
           option_map_or (calling_14 env s) (option_map (of_object o m xs) c) [] ≡ [] → MethodIsRight o m xs (Some (denotes.Value t))
       cases None is none_10 none_11 none_12 none_14 =
-          subst (λ c. Means p cs (option_map_or (call_core env) (option_map (of_object o m xs) c) (text_core o m.name (cores xs))) (option_map_or (call_denotes env) (option_map (of_object o m xs) c) (library_method m.name xs (Some (denotes.Value t))))) (sym is)
+          subst (λ c. Means p cs (option_map_or (call_core env) (option_map (of_object o m xs) c) (text_core o m.name (cores xs))) (option_map_or (call_denotes env.symbols) (option_map (of_object o m xs) c) (library_method m.name xs (Some (denotes.Value t))))) (sym is)
           (text_method_right o m xs t hold below means said none_10 none_11 none_12)
       cases (Some c) is none_10 none_11 none_12 none_14 =
-          subst (λ c. Means p cs (option_map_or (call_core env) (option_map (of_object o m xs) c) (text_core o m.name (cores xs))) (option_map_or (call_denotes env) (option_map (of_object o m xs) c) (library_method m.name xs (Some (denotes.Value t))))) (sym is)
+          subst (λ c. Means p cs (option_map_or (call_core env) (option_map (of_object o m xs) c) (text_core o m.name (cores xs))) (option_map_or (call_denotes env.symbols) (option_map (of_object o m xs) c) (library_method m.name xs (Some (denotes.Value t))))) (sym is)
           (names.calling_right env p agrees s cs inside m xs through.Object c o.core (object_typed o.core t c means is) hold below none_10 none_11 none_12 none_14)
 
   pub method_right : (o : Attr) (m : Ident) (xs : List Attr) → Holds p cs o → AllHold p cs xs → Holds p cs (attr_at env s (Expr-F.Method o m xs))

@@ -27,7 +27,8 @@ use Rattle.java_exprs.specs.declared.environment.Environment.{Environment}
 use Rattle.java_exprs.specs.Attr.{of_rule}
 use Rattle.java_exprs.specs.Lookups.{class_named, unknown_type}
 use Rattle.java_statements.specs.Statements.{again_10, exception_10}
-use Rattle.java_types.specs.Declarations.{with_param, params_10, answer_10, method_scope, maker_scope, declared_10, declared_11, declared_20, declaration_faults}
+use Rattle.java_types.specs.Declarations.{with_param, params_10, answer_10, declared_10, declared_11, declared_20, declaration_faults}
+use Rattle.java_names.specs.Scope.{method_scope, maker_scope}
 use Rattle.java_types.specs.Files.{of_members}
 use Rattle.typing_law.proofs.NoFaults.{empty_parts, empty_rule}
 use Rattle.typing_law.proofs.Spelled.{declared_value}
@@ -116,7 +117,7 @@ module _ (env : Environment) (p : Program) (classes : (x : Name) (c : ℕ) → c
   method_values c (member.Empty ∷ more) i y none is = method_values c more i y (empty_parts (declaration_faults env c member.Empty) (flat_map (declaration_faults env c) more) none).1 is
   method_values c (member.Method m ∷ more) zero y none is =
       let here = none_10 c (member.Method m) (empty_parts (declaration_faults env c (member.Method m)) (flat_map (declaration_faults env c) more) none).0 in
-      let parts = empty_parts (answer_10 env m.answer) (params_10 env m.params (method_scope env c m) ++ flat_map (exception_10 env) m.throws) here in
+      let parts = empty_parts (answer_10 env m.answer) (params_10 env m.params (method_scope env.symbols c m) ++ flat_map (exception_10 env) m.throws) here in
       subst HasMethodValues (same_Some (method_row m) y is)
-      (params_values m.params (method_scope env c m) (empty_parts (params_10 env m.params (method_scope env c m)) (flat_map (exception_10 env) m.throws) parts.1).0, answer_value m.answer parts.0)
+      (params_values m.params (method_scope env.symbols c m) (empty_parts (params_10 env m.params (method_scope env.symbols c m)) (flat_map (exception_10 env) m.throws) parts.1).0, answer_value m.answer parts.0)
   method_values c (member.Method m ∷ more) (suc i) y none is = method_values c more i y (empty_parts (declaration_faults env c (member.Method m)) (flat_map (declaration_faults env c) more) none).1 is

@@ -28,13 +28,15 @@ use Rattle.primitive_operators.specs.declared.scalar.Scalar.{Scalar}
 use Rattle.primitive_operators.specs.declared.scalar.Scalar.TheVariants as scalar
 use Rattle.java_exprs.specs.declared.folded.Folded.{Folded}
 use Rattle.java_exprs.specs.declared.folded.Folded.TheVariants as folded
-use Rattle.java_exprs.specs.declared.typed.Denotation.{Denotation}
-use Rattle.java_exprs.specs.declared.typed.Denotation.TheVariants as denotes
-use Rattle.java_exprs.specs.Attr.{Attr, value_type, unless, only_if, of_rule, named_10, nothing_11, bare_19, value_faults, negated_faults, prefix_faults}
-use Rattle.java_exprs.specs.Types as rules
-use Rattle.java_exprs.specs.Lookups.{member_of, class_named, local_named, local_denotes, variable_denotes}
+use Rattle.java_denotes.specs.declared.denotation.Denotation.{Denotation}
+use Rattle.java_denotes.specs.declared.denotation.Denotation.TheVariants as denotes
+use Rattle.java_exprs.specs.Attr.{Attr, unless, only_if, of_rule, named_10, nothing_11, bare_19, value_faults, negated_faults, prefix_faults}
+use Rattle.java_denotes.specs.Members.{value_type}
+use Rattle.java_denotes.specs.Types as rules
+use Rattle.java_exprs.specs.Lookups.{member_of, class_named, local_named}
+use Rattle.java_denotes.specs.Lookups.{local_denotes, variable_denotes}
 use Rattle.java_exprs.specs.Members.{naming, naming_behind}
-use Rattle.java_exprs.specs.Denotes.{value, binary_type, bitwise_type, class_denotes, member_denotes, library_field, choice_type, unary_type}
+use Rattle.java_denotes.specs.Denotes.{value, binary_type, bitwise_type, class_denotes, member_denotes, library_field, choice_type, unary_type}
 use Rattle.java_exprs.specs.Rules.{wants, of_types, both_11, bitwise_11, is_bitwise, fits_bitwise, equality_11, equality_16, sum_11, choice_11}
 use Rattle.java_exprs.specs.Checks.{attr, attr_at}
 use Rattle.java_exprs.specs.Constants.{field_folded, found_folded, name_folded, behind_folded, folded_at, folded_of}
@@ -247,7 +249,7 @@ module _ (env : Environment) (s : Scope) (classes : List CoreClass) (agree : (c 
   behind_matches o f folded.Unknown matches = tt
   behind_matches o f folded.Other matches = tt
   behind_matches o f (folded.Class c) matches =
-      subst (λ d. Matches (option_map_or (member_denotes env) (naming_behind o f d) (library_field f.name d)) (found_folded env (member_of env c f.name))) (sym matches) (of_member (member_of env c f.name) refl)
+      subst (λ d. Matches (option_map_or (member_denotes env.symbols) (naming_behind o f d) (library_field f.name d)) (found_folded env (member_of env c f.name))) (sym matches) (of_member (member_of env c f.name) refl)
     where
       of_member : (found : Option FieldSymbol) → member_of env c f.name ≡ found → Matches (option_and_then (λ m. variable_denotes m.ty) (option_and_then (λ m. if is_some m.place || true then Some m else None) found)) (found_folded env found)
       of_member None is = tt
@@ -400,7 +402,7 @@ module _ (env : Environment) (s : Scope) (classes : List CoreClass) (agree : (c 
       let below = empty_parts (value_faults c) (value_faults a ++ value_faults b) none_of.below in
       let below_both = empty_parts (value_faults a) (value_faults b) below.1 in
       let here = empty_parts (wants is_boolean c) (of_types (λ t u. unless (rules.is_either_way env.symbols t u) b.at) a b) none_of.rule_11 in
-      gated (value (choice_type env (value_type a.denotes) (value_type b.denotes))) (list_all is_made (fc ∷ fa ∷ fb ∷ [])) (choice_folded fc fa fb) (λ made.
+      gated (value (choice_type env.symbols (value_type a.denotes) (value_type b.denotes))) (list_all is_made (fc ∷ fa ∷ fb ∷ [])) (choice_folded fc fa fb) (λ made.
       let made_rest = and_r (is_made fc) (list_all is_made (fa ∷ fb ∷ [])) made in
       let made_last = and_r (is_made fa) (list_all is_made (fb ∷ [])) made_rest in
       let t = value_sound c fc sound_c below.0 (and_l (is_made fc) (list_all is_made (fa ∷ fb ∷ [])) made) in
@@ -411,10 +413,10 @@ module _ (env : Environment) (s : Scope) (classes : List CoreClass) (agree : (c 
       (widens u.0 v.0) refl (sym (ap (λ x. x || rules.is_assignable env.symbols (kind_type v.0) (kind_type u.0)) (widens_test env.symbols classes agree u.0 v.0) ∙ ap (λ x. widens u.0 v.0 || x) (widens_test env.symbols classes agree v.0 u.0)) ∙ either))
     where
       said : (i j : Kind) → a.denotes ≡ Some (denotes.Value (kind_type i)) → b.denotes ≡ Some (denotes.Value (kind_type j)) → rules.is_either_way env.symbols (kind_type i) (kind_type j) ≡ true → (wider : Bool) → widens i j ≡ wider →
-          value (choice_type env (value_type a.denotes) (value_type b.denotes)) ≡ Some (denotes.Value (kind_type (if wider then j else i)))
+          value (choice_type env.symbols (value_type a.denotes) (value_type b.denotes)) ≡ Some (denotes.Value (kind_type (if wider then j else i)))
       said i j is_a is_b either wider is_wider =
-          ap (λ d. value (choice_type env (value_type d) (value_type b.denotes))) is_a
-          ∙ ap (λ d. value (choice_type env (Some (kind_type i)) (value_type d))) is_b
+          ap (λ d. value (choice_type env.symbols (value_type d) (value_type b.denotes))) is_a
+          ∙ ap (λ d. value (choice_type env.symbols (Some (kind_type i)) (value_type d))) is_b
           ∙ ap (λ x. value (if x then Some (rules.wider env.symbols (kind_type i) (kind_type j)) else None)) either
           ∙ ap (λ x. Some (denotes.Value (if x then kind_type j else kind_type i))) (widens_test env.symbols classes agree i j ∙ is_wider)
           ∙ ap (λ u. Some (denotes.Value u)) (joins wider)
@@ -424,7 +426,7 @@ module _ (env : Environment) (s : Scope) (classes : List CoreClass) (agree : (c 
           joins false = refl
 
       chosen : (i j : Kind) → a.denotes ≡ Some (denotes.Value (kind_type i)) → b.denotes ≡ Some (denotes.Value (kind_type j)) → FoldFits fc ABool → FoldFits fa i → FoldFits fb j → rules.is_either_way env.symbols (kind_type i) (kind_type j) ≡ true →
-          (wider : Bool) → widens i j ≡ wider → (widens i j || widens j i) ≡ true → Typed (value (choice_type env (value_type a.denotes) (value_type b.denotes))) (choice_folded fc fa fb)
+          (wider : Bool) → widens i j ≡ wider → (widens i j || widens j i) ≡ true → Typed (value (choice_type env.symbols (value_type a.denotes) (value_type b.denotes))) (choice_folded fc fa fb)
       chosen i j is_a is_b x y z either true is one = (j, said i j is_a is_b either true is, choice_fits fc fa fb j x (folded_widens i j fa is y) z)
       chosen i j is_a is_b x y z either false is one = (i, said i j is_a is_b either false is, choice_fits fc fa fb i x y (folded_widens j i fb (ap (λ w. w || widens j i) (sym is) ∙ one) z))
 

@@ -10,7 +10,7 @@ use Rattle.core_tree.specs.Typing.{is_int_number}
 use Rattle.core_tree.proofs.TypeNodes.{is_assignable-Int, is_assignable-Bool, is_assignable-Text, is_assignable-Null}
 use Rattle.java_names.specs.declared.symbol.Symbols.{Symbols}
 use Rattle.java_names.specs.Lookups.{is_below}
-use Rattle.java_exprs.specs.Types as rules
+use Rattle.java_denotes.specs.Types as rules
 use Rattle.primitive_operators.specs.declared.scalar.Scalar.{Scalar}
 use Rattle.primitive_operators.specs.declared.scalar.Scalar.TheVariants as scalar
 use Rattle.java_exprs.specs.declared.folded.Folded.{Folded}

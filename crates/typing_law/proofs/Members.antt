@@ -29,7 +29,7 @@ use Rattle.java_syntax.specs.declared.class.MakerTree.{MakerTree}
 use Rattle.class_table.specs.Members.{is_static, types_of}
 use Rattle.java_names.specs.declared.scope.Scope.{Scope}
 use Rattle.java_names.specs.declared.symbol.MakerSymbol.{MakerSymbol}
-use Rattle.java_names.specs.Scope.{first_scope}
+use Rattle.java_names.specs.Scope.{first_scope, method_scope, maker_scope}
 use Rattle.java_names.specs.Types.{declared_type, declared_types, answer_type}
 use Rattle.java_exprs.specs.declared.environment.Environment.{Environment}
 use Rattle.java_exprs.specs.Attr.{Attr, of_rule, value_faults, values_faults}
@@ -38,8 +38,9 @@ use Rattle.java_exprs.specs.Resolved.{cores, first_core}
 use Rattle.java_exprs.specs.Rules.{wants_type, wants_each}
 use Rattle.java_exprs.specs.Checks.{attr}
 use Rattle.java_statements.specs.Statements.{effect, again_10}
-use Rattle.java_types.specs.Declarations.{with_param, with_params, params_10, answer_10, method_scope, maker_scope}
-use Rattle.java_types.specs.Bodies.{start_faults, field_faults, core_field, body_effects, method_effects, core_method, parent_11, parent_12, parent_13, parent_faults, parent_faults_of, built_in_parent, core_parent_of, core_parent, beginning, params_scope, given_of, maker_effects, maker_faults, core_maker, made_maker}
+use Rattle.java_types.specs.Declarations.{with_param, with_params, params_10, answer_10}
+use Rattle.java_types.specs.Bodies.{start_faults, field_faults, core_field, body_effects, method_effects, core_method, parent_11, parent_12, parent_13, parent_faults, parent_faults_of, built_in_parent, core_parent_of, core_parent, params_scope, given_of, maker_effects, maker_faults, core_maker, made_maker}
+use Rattle.java_names.specs.Beginnings.{beginning}
 use Rattle.typing_law.specs.Agrees.{Agrees, AgreesOnMaker, IsOfFile}
 use Rattle.typing_law.specs.Scopes.{IsKnown, GoesTo, FitsBody}
 use Rattle.typing_law.proofs.TypeFacts as facts
@@ -142,11 +143,11 @@ module _ (env : Environment) (p : Program) (agrees : Agrees env p) where
   answer_value None none = or_right (is_value p ty.Void) (is_void ty.Void) facts.is_void-Void
   answer_value (Some t) none = or_left (is_value p (declared_type env.symbols.names t)) (is_void (declared_type env.symbols.names t)) (declared_value env p agrees.class t none)
 
-  pub method_right : (c : ℕ) (m : MethodTree) → IsOfFile env p c → answer_10 env m.answer ≡ [] → params_10 env m.params (method_scope env c m) ≡ [] → (method_effects env c m).faults ≡ [] → IsTrue (is_method p (core_method env c m))
+  pub method_right : (c : ℕ) (m : MethodTree) → IsOfFile env p c → answer_10 env m.answer ≡ [] → params_10 env m.params (method_scope env.symbols c m) ≡ [] → (method_effects env c m).faults ≡ [] → IsTrue (is_method p (core_method env c m))
   method_right c m of_file none_answer none_params none =
       let it = core_method env c m in
-      let right = body_right (method_scope env c m) m.params m.body (first_known c (is_static m.mods) (answer_type env.symbols.names m.answer) of_file) refl refl none_params none in
-      let scope : IsBodyScope (method_scope env c m) (it.params ++ it.locals) (typed.method_scope it) = record { this = λ instance. ap (λ b. if not b then Some c else None) instance; answer = refl; locals = refl } in
+      let right = body_right (method_scope env.symbols c m) m.params m.body (first_known c (is_static m.mods) (answer_type env.symbols.names m.answer) of_file) refl refl none_params none in
+      let scope : IsBodyScope (method_scope env.symbols c m) (it.params ++ it.locals) (typed.method_scope it) = record { this = λ instance. ap (λ b. if not b then Some c else None) instance; answer = refl; locals = refl } in
       and_from (is_of_file p c) (list_all (is_value p) it.params && (list_all (is_value p) it.locals && ((is_value p it.answer || is_void it.answer) && (is_numbered it.params it.locals it.body && is_typed_body p (typed.method_scope it) it.body)))) of_file.of_file
       (and_from (list_all (is_value p) it.params) (list_all (is_value p) it.locals && ((is_value p it.answer || is_void it.answer) && (is_numbered it.params it.locals it.body && is_typed_body p (typed.method_scope it) it.body))) right.values
       (and_from (list_all (is_value p) it.locals) ((is_value p it.answer || is_void it.answer) && (is_numbered it.params it.locals it.body && is_typed_body p (typed.method_scope it) it.body)) right.local_values

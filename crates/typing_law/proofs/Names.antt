@@ -24,16 +24,19 @@ use Rattle.java_names.specs.declared.symbol.MethodSymbol.{MethodSymbol}
 use Rattle.java_exprs.specs.declared.environment.Environment.{Environment}
 use Rattle.primitive_operators.specs.declared.scalar.Scalar.{Scalar}
 use Rattle.primitive_operators.specs.declared.scalar.Scalar.TheVariants as scalar
-use Rattle.java_exprs.specs.declared.typed.Denotation.{Denotation}
-use Rattle.java_exprs.specs.declared.typed.Denotation.TheVariants as denotes
+use Rattle.java_denotes.specs.declared.denotation.Denotation.{Denotation}
+use Rattle.java_denotes.specs.declared.denotation.Denotation.TheVariants as denotes
 use Rattle.java_exprs.specs.declared.typed.Form.{Form}
 use Rattle.java_exprs.specs.declared.typed.Form.TheVariants as form
-use Rattle.java_exprs.specs.declared.through.Through.{Through}
-use Rattle.java_exprs.specs.declared.through.Through.TheVariants as through
+use Rattle.java_denotes.specs.declared.through.Through.{Through}
+use Rattle.java_denotes.specs.declared.through.Through.TheVariants as through
 use Rattle.java_exprs.specs.Attr.{Attr, only_if, values_faults}
-use Rattle.java_exprs.specs.Members.{Naming, Calling, is_found, named_member}
-use Rattle.java_exprs.specs.Lookups.{superclass_of, member_of, method_of, has_method, constant_at, variable_denotes, answer_denotes}
-use Rattle.java_exprs.specs.Denotes.{member_denotes, member_form, call_denotes}
+use Rattle.java_exprs.specs.Members.{Naming, Calling}
+use Rattle.java_denotes.specs.Members.{is_found, named_member}
+use Rattle.java_exprs.specs.Lookups.{superclass_of, member_of, method_of, has_method, constant_at}
+use Rattle.java_denotes.specs.Lookups.{variable_denotes, answer_denotes}
+use Rattle.java_denotes.specs.Denotes.{member_denotes, call_denotes}
+use Rattle.java_exprs.specs.Denotes.{member_form}
 use Rattle.java_exprs.specs.Resolved.{cores, literal_core, member_core, instance_call, method_core, call_core, site_at}
 use Rattle.java_exprs.specs.Rules.{is_behind_class, needs_this, is_misplaced, naming_10, naming_11, naming_14, calling_10, calling_11, calling_12, calling_14, wants_each}
 use Rattle.typing_law.specs.Means.{HasType, Means, MeansForm, is_place}
@@ -174,9 +177,9 @@ module _ (env : Environment) (p : Program) (agrees : Agrees env p) (s : Scope) (
         cases (Some place) is_place none_11 none_14 = field_right object c place m.ty (field_object th c object true is refl none_11 none_14) (agree.field place is_place) agree.value
 
     pub naming_right : (th : Through) (c : ℕ) (object : Core) → IsNamed th c object → naming_10 env (of_name th c object) ≡ [] → naming_11 env (of_name th c object) ≡ [] → naming_14 env s (of_name th c object) ≡ [] →
-        NameIsRight (member_core env (of_name th c object)) (member_denotes env (of_name th c object)) (member_form env (of_name th c object))
+        NameIsRight (member_core env (of_name th c object)) (member_denotes env.symbols (of_name th c object)) (member_form env (of_name th c object))
     naming_right th c object is none_10 none_11 none_14 =
-        let m = some_there (named_member env (of_name th c object)) (unless_empty (is_some (named_member env (of_name th c object))) x.at none_10) in
+        let m = some_there (named_member env.symbols (of_name th c object)) (unless_empty (is_some (named_member env.symbols (of_name th c object))) x.at none_10) in
         subst (λ found. NameIsRight (option_map_or (λ m. option_map_or (λ place. view.Field object place) m.place (option_map_or literal_core (constant_at env m.at) core.Null)) found core.Null)
         (option_and_then (λ m. variable_denotes m.ty) found) (option_map_or (λ m. if is_some m.place then form.Variable else form.Constant x.at) found form.Other)) (sym m.1)
         (found_right th c object m.0 is (agrees.field c x.name m.0 (of_found (is_found th) (member_of env c x.name) m.0 m.1))
@@ -253,7 +256,7 @@ module _ (env : Environment) (p : Program) (agrees : Agrees env p) (s : Scope) (
 
     pub calling_right : (th : Through) (c : ℕ) (object : Core) → IsCalled th c object → AllHold p cs xs → values_faults xs ≡ [] →
         calling_10 env (of_call th c object) ≡ [] → calling_11 env (of_call th c object) ≡ [] → calling_12 env (of_call th c object) ≡ [] → calling_14 env s (of_call th c object) ≡ [] →
-        Means p cs (call_core env (of_call th c object)) (call_denotes env (of_call th c object))
+        Means p cs (call_core env (of_call th c object)) (call_denotes env.symbols (of_call th c object))
     calling_right th c object is hold below none_10 none_11 none_12 none_14 =
         let method = method_of env c x.name (length xs) in
         let m = there method (has_found (has_method env c x.name) (is_none method) (only_if_empty (has_method env c x.name && is_none method) x.at none_12) (unless_empty (has_method env c x.name) x.at none_10)) in

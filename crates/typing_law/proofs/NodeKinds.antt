@@ -30,18 +30,22 @@ use Rattle.java_names.specs.Types.{arrays}
 use Rattle.java_names.specs.declared.symbol.FieldSymbol.{FieldSymbol}
 use Rattle.java_names.specs.declared.symbol.MakerSymbol.{MakerSymbol}
 use Rattle.java_exprs.specs.declared.environment.Environment.{Environment}
-use Rattle.java_exprs.specs.declared.typed.Denotation.{Denotation}
-use Rattle.java_exprs.specs.declared.typed.Denotation.TheVariants as denotes
+use Rattle.java_denotes.specs.declared.denotation.Denotation.{Denotation}
+use Rattle.java_denotes.specs.declared.denotation.Denotation.TheVariants as denotes
 use Rattle.java_exprs.specs.declared.typed.Form.{Form}
 use Rattle.java_exprs.specs.declared.typed.Form.TheVariants as form
-use Rattle.java_exprs.specs.declared.through.Through.TheVariants as through
-use Rattle.java_exprs.specs.Attr.{Attr, value_type, unless, only_if, value_faults}
-use Rattle.java_exprs.specs.Types as rules
-use Rattle.java_exprs.specs.Members.{is_found}
-use Rattle.java_exprs.specs.Lookups.{member_of, maker_of, class_named, local_named, local_denotes, variable_denotes, elements_named, constant_at}
-use Rattle.java_exprs.specs.Denotes.{value, member_form, call_denotes, class_denotes, form_inside, system_name}
+use Rattle.java_denotes.specs.declared.through.Through.TheVariants as through
+use Rattle.java_exprs.specs.Attr.{Attr, unless, only_if, value_faults}
+use Rattle.java_denotes.specs.Members.{value_type, is_found}
+use Rattle.java_denotes.specs.Types as rules
+use Rattle.java_exprs.specs.Lookups.{member_of, maker_of, class_named, local_named, elements_named, constant_at}
+use Rattle.java_denotes.specs.Lookups.{local_denotes, variable_denotes}
+use Rattle.java_denotes.specs.Denotes.{value, call_denotes, class_denotes}
+use Rattle.java_exprs.specs.Denotes.{member_form, form_inside}
+use Rattle.java_denotes.specs.Library.{system_name}
 use Rattle.java_exprs.specs.Resolved.{cores, literal_core, first_core, member_core, call_core}
-use Rattle.java_exprs.specs.Rules.{wants, wants_each, is_array, naming_14, calling_10, calling_11, calling_12, cast_15, new_11}
+use Rattle.java_exprs.specs.Rules.{wants, wants_each, naming_14, calling_10, calling_11, calling_12, cast_15, new_11}
+use Rattle.java_denotes.specs.Types.{is_array}
 use Rattle.java_exprs.specs.Checks.{attr_at}
 use Rattle.typing_law.specs.Means.{HasType, Means, MeansForm, IsPlace, IsRight, has_values}
 use Rattle.typing_law.specs.Agrees.{Agrees, AgreesOnScope, AgreesOnLocal, AgreesOnMaker}
@@ -108,7 +112,7 @@ module _ (env : Environment) (p : Program) (agrees : Agrees env p) (s : Scope) (
       only_if (s.is_static && (true && option_map_or (λ m. is_some m.place) m false)) x.at ≡ [] →
       names.NameIsRight env p agrees s cs inside
       (option_map_or (λ m. option_map_or (λ place. view.Field core.This place) m.place (option_map_or literal_core (constant_at env m.at) core.Null)) m core.Null)
-      (option_map_or (λ m. variable_denotes m.ty) m (class_denotes env x.name))
+      (option_map_or (λ m. variable_denotes m.ty) m (class_denotes env.symbols x.name))
       (option_map_or (λ m. if is_some m.place then form.Variable else form.Constant x.at) m form.Other)
   member_name x None is known none = record { means = class_means x (class_named env x.name) known; form = tt }
   member_name x (Some m) is known none = names.found_right env p agrees s cs inside x through.This s.class core.This m (refl, refl) (agrees.field s.class x.name m is) refl none
@@ -133,7 +137,7 @@ module _ (env : Environment) (p : Program) (agrees : Agrees env p) (s : Scope) (
           IsRight p cs (attr_at env s (Expr-F.Name x))
       cases (Some n) is none_10 none_14 = let right = local_right n (inside.local x.name n is) in subst (λ local. IsRight p cs (record {
         at = x.at;
-        denotes = option_map_or (local_denotes s) local (option_map_or (λ m. variable_denotes m.ty) (member_of env s.class x.name) (class_denotes env x.name));
+        denotes = option_map_or (local_denotes s) local (option_map_or (λ m. variable_denotes m.ty) (member_of env s.class x.name) (class_denotes env.symbols x.name));
         form = if is_some local then form.Variable else option_map_or (member_form env) (if is_some local then None else Some (record { through = through.This; class = s.class; object = core.This; name = x })) form.Other;
         needs_minus = false;
         core = option_map_or core.Local local (option_map_or (member_core env) (if is_some local then None else Some (record { through = through.This; class = s.class; object = core.This; name = x })) core.Null);
@@ -145,10 +149,10 @@ module _ (env : Environment) (p : Program) (agrees : Agrees env p) (s : Scope) (
           (subst (λ found. only_if (s.is_static && (true && option_map_or (λ m. is_some m.place) found false)) x.at ≡ []) same none_14) in
           let of_field = λ (m : FieldSymbol). option_map_or (λ place. view.Field core.This place) m.place (option_map_or literal_core (constant_at env m.at) core.Null) in
           let of_form = λ (m : FieldSymbol). if is_some m.place then form.Variable else form.Constant x.at in
-          let denoted = option_map_or (λ m. variable_denotes m.ty) (member_of env s.class x.name) (class_denotes env x.name) in
+          let denoted = option_map_or (λ m. variable_denotes m.ty) (member_of env s.class x.name) (class_denotes env.symbols x.name) in
           subst (λ local. IsRight p cs (record {
             at = x.at;
-            denotes = option_map_or (local_denotes s) local (option_map_or (λ m. variable_denotes m.ty) (member_of env s.class x.name) (class_denotes env x.name));
+            denotes = option_map_or (local_denotes s) local (option_map_or (λ m. variable_denotes m.ty) (member_of env s.class x.name) (class_denotes env.symbols x.name));
             form = if is_some local then form.Variable else option_map_or (member_form env) (if is_some local then None else Some (record { through = through.This; class = s.class; object = core.This; name = x })) form.Other;
             needs_minus = false;
             core = option_map_or core.Local local (option_map_or (member_core env) (if is_some local then None else Some (record { through = through.This; class = s.class; object = core.This; name = x })) core.Null);
@@ -338,7 +342,7 @@ module _ (env : Environment) (p : Program) (agrees : Agrees env p) (s : Scope) (
       let on_object = only_if_empty s.is_static at b.rule_14 in
       let of = λ (c : ℕ). names.of_call env p agrees s cs inside x xs through.Super c core.This in
       record {
-        means = subst (λ found. Means p cs (option_map_or (call_core env) (option_map of found) core.Null) (option_and_then (call_denotes env) (option_map of found))) (sym c.1)
+        means = subst (λ found. Means p cs (option_map_or (call_core env) (option_map of found) core.Null) (option_and_then (call_denotes env.symbols) (option_map of found))) (sym c.1)
             (names.calling_right env p agrees s cs inside x xs through.Super c.0 core.This (c.1, on_object) hold b.below
             (subst (λ found. option_map_or (calling_10 env) (option_map of found) [] ≡ []) c.1 b.rule_10)
             (subst (λ found. option_map_or (calling_11 env) (option_map of found) [] ≡ []) c.1 b.rule_11)

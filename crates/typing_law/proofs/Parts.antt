@@ -5,9 +5,10 @@ use Rattle.core_tree.specs.declared.ty.Ty.{Ty}
 use Rattle.core_tree.specs.declared.expr.Expr.{Expr as Core}
 use Rattle.core_tree.specs.declared.program.Program.{Program}
 use Rattle.core_tree.specs.Typing.{Scope as CoreScope}
-use Rattle.java_exprs.specs.declared.typed.Denotation.{Denotation}
-use Rattle.java_exprs.specs.declared.typed.Denotation.TheVariants as denotes
-use Rattle.java_exprs.specs.Attr.{Attr, value_type, unless, only_if, of_rule, is_no_value, is_nothing, named_10, nothing_11, bare_19, value_faults, negated_faults, prefix_faults}
+use Rattle.java_denotes.specs.declared.denotation.Denotation.{Denotation}
+use Rattle.java_denotes.specs.declared.denotation.Denotation.TheVariants as denotes
+use Rattle.java_exprs.specs.Attr.{Attr, unless, only_if, of_rule, is_no_value, is_nothing, named_10, nothing_11, bare_19, value_faults, negated_faults, prefix_faults}
+use Rattle.java_denotes.specs.Members.{value_type}
 use Rattle.java_exprs.specs.Rules.{wants}
 use Rattle.typing_law.specs.Means.{HasType, Means, IsRight}
 use Rattle.typing_law.proofs.NoFaults.{empty_parts, empty_rule, unless_empty, no_place}

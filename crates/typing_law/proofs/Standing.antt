@@ -9,7 +9,7 @@ use Rattle.core_tree.specs.declared.program.Program.{Program}
 use Rattle.core_tree.specs.Types.{is_int, is_boolean, is_string, is_null, is_object, is_assignable}
 use Rattle.core_tree.specs.Typing.{Scope, has, has_text, fits, is_text_or_null, type_of}
 use Rattle.core_tree.proofs.TypeNodes.{is_assignable-Text, is_assignable-Null}
-use Rattle.java_exprs.specs.Types.{is_printed}
+use Rattle.java_exprs.specs.Rules.{is_printed}
 use Rattle.typing_law.specs.Means.{StandsFor, HasType}
 use Rattle.typing_law.proofs.TypeFacts as type
 

@@ -16,11 +16,12 @@ use Rattle.core_tree.specs.Types.{is_int, is_boolean, is_string, is_null, is_voi
 use Rattle.core_tree.specs.Typing.{Scope as CoreScope, PartType, has, has_text, ints, booleans, expr_node, type_of, target_type, is_update}
 use Rattle.java_names.specs.declared.scope.Scope.{Scope}
 use Rattle.java_exprs.specs.declared.environment.Environment.{Environment}
-use Rattle.java_exprs.specs.declared.typed.Denotation.{Denotation}
-use Rattle.java_exprs.specs.declared.typed.Denotation.TheVariants as denotes
+use Rattle.java_denotes.specs.declared.denotation.Denotation.{Denotation}
+use Rattle.java_denotes.specs.declared.denotation.Denotation.TheVariants as denotes
 use Rattle.java_exprs.specs.declared.typed.Form.{Form}
 use Rattle.java_exprs.specs.declared.typed.Form.TheVariants as form
-use Rattle.java_exprs.specs.Attr.{Attr, value_type, unless, only_if}
+use Rattle.java_exprs.specs.Attr.{Attr, unless, only_if}
+use Rattle.java_denotes.specs.Members.{value_type}
 use Rattle.java_exprs.specs.Rules.{both_11, bitwise_11, sum_21}
 use Rattle.java_statements.specs.Statements.{target_node, target_of, is_target, target_18, constant_20, sum_11, sum_op}
 use Rattle.typing_law.specs.Means.{IsPlace, IsRight, MeansForm, is_place, has_values}

@@ -10,7 +10,7 @@ use Rattle.core_tree.specs.Types.{is_subclass, class_of, is_null, is_string, is_
 use Rattle.core_tree.specs.Types as core
 use Rattle.java_names.specs.declared.symbol.Symbols.{Symbols}
 use Rattle.java_names.specs.Lookups.{is_below}
-use Rattle.java_exprs.specs.Types as rules
+use Rattle.java_denotes.specs.Types as rules
 
 or_order : (a b c : Bool) → (a || (b || c)) ≡ ((a || b) || c)
 or_order true b c = refl

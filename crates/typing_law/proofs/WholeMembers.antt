@@ -21,7 +21,8 @@ use Rattle.primitive_operators.specs.declared.scalar.Scalar.{Scalar}
 use Rattle.java_exprs.specs.Lookups.{unknown_type}
 use Rattle.java_statements.specs.Statements.{again_10, exception_10}
 use Rattle.java_types.specs.Bodies.{core_method, core_maker, made_maker}
-use Rattle.java_types.specs.Declarations.{answer_10, declaration_faults, maker_scope, method_scope, params_10, with_param}
+use Rattle.java_types.specs.Declarations.{answer_10, declaration_faults, params_10, with_param}
+use Rattle.java_names.specs.Scope.{maker_scope, method_scope}
 use Rattle.java_types.specs.Files.{of_members, of_made, is_maker, where_none, member_faults, made_faults, own_method, own_maker}
 use Rattle.typing_law.specs.Agrees.{Agrees, IsOfFile}
 use Rattle.typing_law.proofs.Members.{method_right, maker_right, made_right}
@@ -63,9 +64,9 @@ module _ (tree : FileTree) (constants : List (ℕ × Option Scalar)) (none : of_
   method_typed c member.Empty file declared body = refl
   method_typed c (member.Method m) file declared body =
       let here = none_10 first p (class_within table tree constants) c (member.Method m) declared in
-      let parts = empty_parts (answer_10 first m.answer) (params_10 first m.params (method_scope first c m) ++ flat_map (exception_10 first) m.throws) here in
-      let params = (empty_parts (params_10 first m.params (method_scope first c m)) (flat_map (exception_10 first) m.throws) parts.1).0 in
-      and_from (is_method p (core_method env c m)) true (method_right env p agrees c m file parts.0 (sym (same_params m.params (method_scope first c m)) ∙ params) body) refl
+      let parts = empty_parts (answer_10 first m.answer) (params_10 first m.params (method_scope first.symbols c m) ++ flat_map (exception_10 first) m.throws) here in
+      let params = (empty_parts (params_10 first m.params (method_scope first.symbols c m)) (flat_map (exception_10 first) m.throws) parts.1).0 in
+      and_from (is_method p (core_method env c m)) true (method_right env p agrees c m file parts.0 (sym (same_params m.params (method_scope first.symbols c m)) ∙ params) body) refl
 
   pub methods_typed : of_members (member_faults env) 18 tree.classes ≡ [] → IsTrue (list_all (is_method p) p.methods)
   methods_typed bodies = all_members (is_method p) (own_method env) 18 tree.classes (λ j k is_k i m is_m.

@@ -1,5 +1,5 @@
 use Rattle.std.proofs.Common.{rules}
-use Rattle.java_exprs.specs.Checks.{Refuses}
+use Rattle.java_names.specs.Refusals.{Refuses}
 use Rattle.java_types.specs.Answers.{read_in}
 use Rattle.java_types.specs.Constants.{read_members}
 use Rattle.java_types.proofs.ReadingLemmas.{same_after, members_end, member_read, member_refused}

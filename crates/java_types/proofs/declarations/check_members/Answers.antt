@@ -1,5 +1,5 @@
 use Rattle.std.proofs.Common.{flat_map, rules}
-use Rattle.java_exprs.specs.Checks.{Refuses}
+use Rattle.java_names.specs.Refusals.{Refuses}
 use Rattle.java_types.specs.Declarations.{declaration_faults}
 use Rattle.java_statements.proofs.ListLemmas.{refuses_item}
 use Rattle.java_types.proofs.declarations.check_members.Goals as goal

@@ -1,6 +1,6 @@
 use Rattle.std.proofs.Common.{◌≡◌, [], OnOk, IfOk, sym, subst, rules}
 use Rattle.core_tree.specs.declared.program.Program.{Program}
-use Rattle.java_exprs.specs.Checks.{Refuses}
+use Rattle.java_names.specs.Refusals.{Refuses}
 use Rattle.java_types.specs.Files.{faults_of}
 use Rattle.java_types.proofs.ResolveLemmas.{body_is, constants_refused, declared_refused, program_fault, program_is}
 use Rattle.java_types.proofs.file.resolve.Goals as goal

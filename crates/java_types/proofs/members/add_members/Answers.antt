@@ -1,5 +1,5 @@
 use Rattle.std.proofs.Common.{◌∙◌, sym, flat_map, rules}
-use Rattle.java_exprs.specs.Checks.{Refuses}
+use Rattle.java_names.specs.Refusals.{Refuses}
 use Rattle.java_types.specs.Answers.{faults_in}
 use Rattle.java_types.specs.Files.{member_faults}
 use Rattle.java_statements.proofs.ListLemmas.{refuses_item}

@@ -1,6 +1,6 @@
 use Rattle.std.proofs.Common.{rules}
 use Rattle.java_syntax.specs.declared.class.Member.TheVariants as member
-use Rattle.java_exprs.specs.Checks.{Refuses}
+use Rattle.java_names.specs.Refusals.{Refuses}
 use Rattle.java_types.specs.Answers.{faults_in}
 use Rattle.java_types.proofs.MemberLemmas.{method_params_refused, method_body_refused}
 use Rattle.java_types.proofs.methods.method.Goals as goal

@@ -1,4 +1,4 @@
-use Rattle.std.proofs.Common.{◌≡◌, ◌∙◌, ℕ, ◌+◌, List, [], ◌∷◌, ◌++◌, ap, arith, drop, rules, sym}
+use Rattle.std.proofs.Common.{◌≡◌, ◌∙◌, ℕ, ◌+◌, suc, List, [], ◌∷◌, ◌++◌, ap, arith, drop, rules, sym}
 use Rattle.std.proofs.lemmas.Grind.{common_steps}
 use Rattle.java_syntax.specs.declared.class.ClassTree.{ClassTree}
 use Rattle.token_reading.specs.declared.fault.Fault.{Fault}
@@ -15,10 +15,10 @@ returns-in_err-class c =
     let n = c.loop-tree.number in
     let rest = drop (c.loop-tree.tree-index + 1) c.args.list.now in
     let is : drop c.loop-tree.tree-index c.args.list.now ≡ c.tree-item.result ∷ rest = grind (arith, common_steps) in
-    let whole : faults_from symbols first_class c.args.list.now ≡ class_faults symbols n c.tree-item.result ++ faults_from symbols (n + 1) rest
+    let whole : faults_from symbols first_class c.args.list.now ≡ class_faults symbols n c.tree-item.result ++ faults_from symbols (suc n) rest
     = c.loop-tree.invariant ∙ ap (λ (list : List ClassTree). faults_from symbols n list) is ∙ faults_step symbols n c.tree-item.result rest in
     let among : Refuses (faults_from symbols first_class c.args.list.now) c.in_err-class.field-0.0
-    = rw whole (refuses_left (class_faults symbols n c.tree-item.result) (faults_from symbols (n + 1) rest) c.in_err-class.field-0.0 c.in_err-class.ensures) in
+    = rw whole (refuses_left (class_faults symbols n c.tree-item.result) (faults_from symbols (suc n) rest) c.in_err-class.field-0.0 c.in_err-class.ensures) in
     search rules
 
 pub loop-tree-preserved : goal.loop-tree-preserved
@@ -27,9 +27,9 @@ loop-tree-preserved c =
     let n = c.loop-tree.number in
     let rest = drop (c.loop-tree.tree-index + 1) c.args.list.now in
     let is : drop c.loop-tree.tree-index c.args.list.now ≡ c.tree-item.result ∷ rest = grind (arith, common_steps) in
-    let whole : faults_from symbols first_class c.args.list.now ≡ class_faults symbols n c.tree-item.result ++ faults_from symbols (n + 1) rest
+    let whole : faults_from symbols first_class c.args.list.now ≡ class_faults symbols n c.tree-item.result ++ faults_from symbols (suc n) rest
     = c.loop-tree.invariant ∙ ap (λ (list : List ClassTree). faults_from symbols n list) is ∙ faults_step symbols n c.tree-item.result rest in
-    whole ∙ ap (λ (faults : List Fault). faults ++ faults_from symbols (n + 1) rest) c.in_ok-class.ensures ∙ ap (λ (number : ℕ). faults_from symbols number rest) (sym c.in_ok-number.ensures.number)
+    whole ∙ ap (λ (faults : List Fault). faults ++ faults_from symbols (suc n) rest) c.in_ok-class.ensures ∙ ap (λ (number : ℕ). faults_from symbols number rest) (sym c.in_ok-number.ensures)
 
 pub returns : goal.returns
 returns c =

@@ -102,7 +102,7 @@ fn classes(alloc: Global, tokens: &mut Tokens<'_>, most: u32) -> Result<Items<Cl
     Err(Refusal::NoTree)
 }
 
-/// The classes of a file of at most this height, behind which nothing stands (JLS 7.3).
+/// The classes of a file of at most this height, after which nothing stands (JLS 7.3).
 #[tactic(auto, unfolding(java_reading::specs::ReadClass::file))]
 pub fn file(alloc: Global, tokens: &mut Tokens<'_>, most: u32) -> Result<Items<ClassTree>, Refusal>
     requires { most ≤ 200 }

@@ -71,7 +71,7 @@ impl<F: Fn(Global, &mut Tokens<'_>, u32, bool) -> Result<Stmt, Refusal>> Stateme
         Ok(nodes::one(self.alloc, tree)?)
     }
 
-    /// What stands behind `for` (JLS 14.14.1).
+    /// What stands after `for` (JLS 14.14.1).
     #[tactic(auto, unfolding(java_reading::specs::ReadStmt::for_stmt))]
     pub fn for_stmt(&self, tokens: &mut Tokens<'_>) -> Result<Stmt, Refusal>
         requires part { NestsStatements self.now.parts (F.pre self.now.read) (F.post self.now.read) }
@@ -87,7 +87,7 @@ impl<F: Fn(Global, &mut Tokens<'_>, u32, bool) -> Result<Stmt, Refusal>> Stateme
         Ok(nodes::for_node(self.alloc, start, condition, update, body)?)
     }
 
-    /// What stands behind `catch` (JLS 14.20).
+    /// What stands after `catch` (JLS 14.20).
     #[tactic(auto, unfolding(java_reading::specs::ReadStmt::catch))]
     fn catch(&self, tokens: &mut Tokens<'_>) -> Result<CatchTree, Refusal>
         requires part { NestsStatements self.now.parts (F.pre self.now.read) (F.post self.now.read) }
@@ -140,7 +140,7 @@ impl<F: Fn(Global, &mut Tokens<'_>, u32, bool) -> Result<Stmt, Refusal>> Stateme
         }
     }
 
-    /// What stands behind `try` (JLS 14.20).
+    /// What stands after `try` (JLS 14.20).
     #[tactic(auto, unfolding(java_reading::specs::ReadStmt::try_stmt))]
     pub fn try_stmt(&self, tokens: &mut Tokens<'_>) -> Result<Stmt, Refusal>
         requires part { NestsStatements self.now.parts (F.pre self.now.read) (F.post self.now.read) }

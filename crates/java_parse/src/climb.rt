@@ -1,4 +1,4 @@
-//! What goes on behind an operand: precedence climbing (Richards and Whitby-Strevens, 1979), with one loop for all
+//! What goes on after an operand: precedence climbing (Richards and Whitby-Strevens, 1979), with one loop for all
 //! operators and suffixes.
 //!
 //! ```text
@@ -26,7 +26,7 @@ use std::alloc::Global;
 use token_reading::{Refusal, Tokens};
 
 impl<F: Fn(Global, &mut Tokens<'_>, u32, u8) -> Result<Tall, Refusal>> Grammar<F> {
-    /// What stands behind an operand and a `.` (JLS 15.11, 15.12).
+    /// What stands after an operand and a `.` (JLS 15.11, 15.12).
     #[tactic(auto, unfolding(java_reading::specs::ReadExpr::member))]
     fn member(&self, tokens: &mut Tokens<'_>, left: Tall) -> Result<Tall, Refusal>
         requires part { Nests self.now.parts (F.pre self.now.read) (F.post self.now.read) }
@@ -46,7 +46,7 @@ impl<F: Fn(Global, &mut Tokens<'_>, u32, u8) -> Result<Tall, Refusal>> Grammar<F
         }
     }
 
-    /// What stands behind an operand and a `[` (JLS 15.10.3).
+    /// What stands after an operand and a `[` (JLS 15.10.3).
     #[tactic(auto, unfolding(java_reading::specs::ReadExpr::element))]
     fn element(&self, tokens: &mut Tokens<'_>, left: Tall) -> Result<Tall, Refusal>
         requires part { Nests self.now.parts (F.pre self.now.read) (F.post self.now.read) }
@@ -62,7 +62,7 @@ impl<F: Fn(Global, &mut Tokens<'_>, u32, u8) -> Result<Tall, Refusal>> Grammar<F
         Ok((tree, height.max(index_height) + 1))
     }
 
-    /// What stands behind an operand and a `?` (JLS 15.25).
+    /// What stands after an operand and a `?` (JLS 15.25).
     #[tactic(auto, unfolding(java_reading::specs::ReadExpr::conditional))]
     fn conditional(&self, tokens: &mut Tokens<'_>, left: Tall) -> Result<Tall, Refusal>
         requires part { Nests self.now.parts (F.pre self.now.read) (F.post self.now.read) }
@@ -79,7 +79,7 @@ impl<F: Fn(Global, &mut Tokens<'_>, u32, u8) -> Result<Tall, Refusal>> Grammar<F
         Ok((tree, height.max(then_height.max(other_height)) + 1))
     }
 
-    /// What stands behind an operand and `instanceof` (JLS 15.20.2).
+    /// What stands after an operand and `instanceof` (JLS 15.20.2).
     #[tactic(auto, unfolding(java_reading::specs::ReadExpr::instance_of))]
     fn instance_of(&self, tokens: &mut Tokens<'_>, left: Tall) -> Result<Tall, Refusal>
         requires part { Nests self.now.parts (F.pre self.now.read) (F.post self.now.read) }
@@ -97,7 +97,7 @@ impl<F: Fn(Global, &mut Tokens<'_>, u32, u8) -> Result<Tall, Refusal>> Grammar<F
         Ok((nodes::instance_of(self.alloc, operand, ty)?, height))
     }
 
-    /// What stands behind an operand and an operator between two (JLS 15.17 to 15.24).
+    /// What stands after an operand and an operator between two (JLS 15.17 to 15.24).
     #[tactic(auto, unfolding(java_reading::specs::ReadExpr::operated))]
     fn operated(&self, tokens: &mut Tokens<'_>, left: Tall, op: BinaryOp) -> Result<Tall, Refusal>
         requires part { Nests self.now.parts (F.pre self.now.read) (F.post self.now.read) }
@@ -112,7 +112,7 @@ impl<F: Fn(Global, &mut Tokens<'_>, u32, u8) -> Result<Tall, Refusal>> Grammar<F
         Ok((tree, height.max(right_height) + 1))
     }
 
-    /// What stands behind an operand and this token.
+    /// What stands after an operand and this token.
     fn behind(&self, tokens: &mut Tokens<'_>, left: Tall, token: Infix) -> Result<Tall, Refusal>
         requires part { Nests self.now.parts (F.pre self.now.read) (F.post self.now.read) }
         requires low { self.now.parts < 200 }

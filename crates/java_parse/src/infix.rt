@@ -1,4 +1,4 @@
-//! What a token does behind an operand, and how tightly it binds (JLS 15).
+//! What a token does after an operand, and how tightly it binds (JLS 15).
 
 ghost use Rattle.std.specs.Prelude.{◌≡◌, ◌≤◌};
 ghost use Rattle.java_syntax.specs.Exprs as grammar;
@@ -84,7 +84,7 @@ pub fn binds(token: Infix) -> u8
     }
 }
 
-/// What the next token does behind an operand.
+/// What the next token does after an operand.
 pub fn first_infix(tokens: &Tokens<'_>) -> Infix
     ensures { result ≡ spec.first_infix tokens.now }
 {

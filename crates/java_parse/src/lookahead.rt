@@ -73,7 +73,7 @@ fn closes_cast(tokens: &Tokens<'_>) -> bool
     }
 }
 
-/// Whether what stands behind a `(` makes it the beginning of a cast (JLS 15.16).
+/// Whether what stands after a `(` makes it the beginning of a cast (JLS 15.16).
 pub fn casts(tokens: &Tokens<'_>) -> bool
     ensures { result ≡ spec.casts tokens.now }
 {

@@ -20,7 +20,7 @@ use java_tokens::{Keyword, Operator};
 use std::alloc::Global;
 use token_reading::{Ident, Refusal, Tokens, TypeTree};
 
-/// What stands behind the name of a constructor (JLS 8.8).
+/// What stands after the name of a constructor (JLS 8.8).
 #[tactic(auto, unfolding(java_reading::specs::ReadClass::maker))]
 fn maker(
     alloc: Global,
@@ -66,7 +66,7 @@ fn with_answer(answer: Option<TypeTree>, tree: MakerTree) -> MethodTree
     }
 }
 
-/// What stands behind the name of a method (JLS 8.4).
+/// What stands after the name of a method (JLS 8.4).
 #[tactic(auto, unfolding(java_reading::specs::ReadClass::method))]
 fn method(
     alloc: Global,
@@ -83,7 +83,7 @@ fn method(
     Ok(Member::Method(with_answer(answer, tree)))
 }
 
-/// What stands behind the name of a field (JLS 8.3).
+/// What stands after the name of a field (JLS 8.3).
 #[tactic(auto, unfolding(java_reading::specs::ReadClass::field))]
 fn field(
     alloc: Global,
@@ -106,7 +106,7 @@ fn field(
     }))
 }
 
-/// What stands behind modifiers and `void`.
+/// What stands after modifiers and `void`.
 #[tactic(auto, unfolding(java_reading::specs::ReadClass::void_method))]
 fn void_method(
     alloc: Global,
@@ -121,7 +121,7 @@ fn void_method(
     method(alloc, tokens, most, mods, None, name)
 }
 
-/// What stands behind the modifiers of a constructor.
+/// What stands after the modifiers of a constructor.
 #[tactic(auto, unfolding(java_reading::specs::ReadClass::constructor))]
 fn constructor(
     alloc: Global,
@@ -136,7 +136,7 @@ fn constructor(
     Ok(Member::Maker(maker(alloc, tokens, most, mods, name)?))
 }
 
-/// What stands behind the modifiers of a field, or of a method with a result.
+/// What stands after the modifiers of a field, or of a method with a result.
 #[tactic(auto, unfolding(java_reading::specs::ReadClass::typed))]
 fn typed(alloc: Global, tokens: &mut Tokens<'_>, most: u32, mods: Mods) -> Result<Member, Refusal>
     requires { most < 200 }
@@ -160,7 +160,7 @@ fn is_maker(tokens: &Tokens<'_>) -> bool
     tokens.sees_name() && behind.sees(Operator::LeftParen)
 }
 
-/// What stands behind modifiers.
+/// What stands after modifiers.
 #[tactic(auto, unfolding(java_reading::specs::ReadClass::declared))]
 fn declared(
     alloc: Global,

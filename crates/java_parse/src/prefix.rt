@@ -47,7 +47,7 @@ impl<F: Fn(Global, &mut Tokens<'_>, u32, u8) -> Result<Tall, Refusal>> Grammar<F
         Err(Refusal::NoTree)
     }
 
-    /// The arguments behind the opening parenthesis, and the greatest of their heights (JLS 15.12).
+    /// The arguments after the opening parenthesis, and the greatest of their heights (JLS 15.12).
     #[tactic(auto, unfolding(java_reading::specs::ReadExpr::args))]
     pub fn args(&self, tokens: &mut Tokens<'_>) -> Result<Talls, Refusal>
         requires part { Nests self.now.parts (F.pre self.now.read) (F.post self.now.read) }
@@ -61,7 +61,7 @@ impl<F: Fn(Global, &mut Tokens<'_>, u32, u8) -> Result<Tall, Refusal>> Grammar<F
         self.more_args(tokens)
     }
 
-    /// What stands behind a name: the arguments of a call, or nothing.
+    /// What stands after a name: the arguments of a call, or nothing.
     #[tactic(auto, unfolding(java_reading::specs::ReadExpr::named))]
     fn named(&self, tokens: &mut Tokens<'_>, name: Ident) -> Result<Tall, Refusal>
         requires part { Nests self.now.parts (F.pre self.now.read) (F.post self.now.read) }
@@ -77,7 +77,7 @@ impl<F: Fn(Global, &mut Tokens<'_>, u32, u8) -> Result<Tall, Refusal>> Grammar<F
         }
     }
 
-    /// What stands behind the `(` of a cast (JLS 15.16).
+    /// What stands after the `(` of a cast (JLS 15.16).
     #[tactic(auto, unfolding(java_reading::specs::ReadExpr::cast))]
     fn cast(&self, tokens: &mut Tokens<'_>, at: u32) -> Result<Tall, Refusal>
         requires part { Nests self.now.parts (F.pre self.now.read) (F.post self.now.read) }
@@ -95,7 +95,7 @@ impl<F: Fn(Global, &mut Tokens<'_>, u32, u8) -> Result<Tall, Refusal>> Grammar<F
         Ok((nodes::cast(self.alloc, at, ty, operand)?, height))
     }
 
-    /// What stands behind a `(`.
+    /// What stands after a `(`.
     #[tactic(auto, unfolding(java_reading::specs::ReadExpr::parens))]
     fn parens(&self, tokens: &mut Tokens<'_>, at: u32) -> Result<Tall, Refusal>
         requires part { Nests self.now.parts (F.pre self.now.read) (F.post self.now.read) }
@@ -111,7 +111,7 @@ impl<F: Fn(Global, &mut Tokens<'_>, u32, u8) -> Result<Tall, Refusal>> Grammar<F
         Ok((nodes::paren(self.alloc, at, inner)?, height + 1))
     }
 
-    /// What stands behind an operator before its operand (JLS 15.15).
+    /// What stands after an operator before its operand (JLS 15.15).
     #[tactic(auto, unfolding(java_reading::specs::ReadExpr::operand))]
     fn operand(
         &self,
@@ -132,7 +132,7 @@ impl<F: Fn(Global, &mut Tokens<'_>, u32, u8) -> Result<Tall, Refusal>> Grammar<F
         Ok((nodes::unary(self.alloc, at, op, operand)?, height + 1))
     }
 
-    /// What stands behind `super` (JLS 15.12).
+    /// What stands after `super` (JLS 15.12).
     #[tactic(auto, unfolding(java_reading::specs::ReadExpr::super_call))]
     fn super_call(&self, tokens: &mut Tokens<'_>, at: u32) -> Result<Tall, Refusal>
         requires part { Nests self.now.parts (F.pre self.now.read) (F.post self.now.read) }
@@ -147,7 +147,7 @@ impl<F: Fn(Global, &mut Tokens<'_>, u32, u8) -> Result<Tall, Refusal>> Grammar<F
         Ok((Expr::Super(at, name, given), height + 1))
     }
 
-    /// What stands behind `new` and the name of a class (JLS 15.9).
+    /// What stands after `new` and the name of a class (JLS 15.9).
     #[tactic(auto, unfolding(java_reading::specs::ReadExpr::instance))]
     fn instance(&self, tokens: &mut Tokens<'_>, at: u32, class: Ident) -> Result<Tall, Refusal>
         requires part { Nests self.now.parts (F.pre self.now.read) (F.post self.now.read) }
@@ -160,7 +160,7 @@ impl<F: Fn(Global, &mut Tokens<'_>, u32, u8) -> Result<Tall, Refusal>> Grammar<F
         Ok((Expr::New(at, class, given), height + 1))
     }
 
-    /// What stands behind `new` and the base of an array's type (JLS 15.10).
+    /// What stands after `new` and the base of an array's type (JLS 15.10).
     #[tactic(auto, unfolding(java_reading::specs::ReadExpr::array))]
     fn array(&self, tokens: &mut Tokens<'_>, at: u32, base: BaseType) -> Result<Tall, Refusal>
         requires part { Nests self.now.parts (F.pre self.now.read) (F.post self.now.read) }
@@ -176,7 +176,7 @@ impl<F: Fn(Global, &mut Tokens<'_>, u32, u8) -> Result<Tall, Refusal>> Grammar<F
         Ok((tree, dimensions.max(height) + 1))
     }
 
-    /// What stands behind `new`.
+    /// What stands after `new`.
     #[tactic(auto, unfolding(java_reading::specs::ReadExpr::creation))]
     fn creation(&self, tokens: &mut Tokens<'_>, at: u32) -> Result<Tall, Refusal>
         requires part { Nests self.now.parts (F.pre self.now.read) (F.post self.now.read) }

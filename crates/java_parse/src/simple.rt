@@ -5,7 +5,7 @@
 //! Simple = Post AssignOp Expr | Post ( "++" | "--" ) | ( "++" | "--" ) Post | Expr
 //! ```
 //!
-//! The operand of a sign is read as any expression, and tested behind it.
+//! The operand of a sign is read as any expression, and tested after it.
 
 ghost use Rattle.std.specs.Prelude.{◌≡◌, ◌≤◌, ◌<◌, ℕ};
 ghost use Rattle.java_syntax.specs.declared.expression.Expr.{out-Expr};
@@ -93,7 +93,7 @@ pub fn declaration(alloc: Global, tokens: &mut Tokens<'_>, most: u32) -> Result<
     Ok(Stmt::Local(local(alloc, tokens, most)?))
 }
 
-/// What stands behind the `++` or `--` before its operand (JLS 15.15).
+/// What stands after the `++` or `--` before its operand (JLS 15.15).
 #[tactic(auto, unfolding(java_reading::specs::ReadStmt::step_before))]
 fn step_before(
     alloc: Global,
@@ -112,7 +112,7 @@ fn step_before(
     }
 }
 
-/// What stands behind an operand and its sign of assignment (JLS 15.26).
+/// What stands after an operand and its sign of assignment (JLS 15.26).
 #[tactic(auto, unfolding(java_reading::specs::ReadStmt::assignment))]
 fn assignment(
     alloc: Global,
@@ -131,7 +131,7 @@ fn assignment(
     Ok(Stmt::Assign(target, op, value))
 }
 
-/// An operand and the `++` or `--` behind it (JLS 15.14).
+/// An operand and the `++` or `--` after it (JLS 15.14).
 #[tactic(auto, unfolding(java_reading::specs::ReadStmt::step_behind))]
 fn step_behind(tokens: &mut Tokens<'_>, operand: Expr, op: StepOp) -> Result<Stmt, Refusal>
     ensures { (most : ℕ) → Reads (spec.step_behind (spec.value most) operand op tokens.old) result tokens.new }
@@ -143,7 +143,7 @@ fn step_behind(tokens: &mut Tokens<'_>, operand: Expr, op: StepOp) -> Result<Stm
     }
 }
 
-/// What stands behind an expression with which a statement begins (JLS 14.8).
+/// What stands after an expression with which a statement begins (JLS 14.8).
 #[tactic(auto, unfolding(java_reading::specs::ReadStmt::evaluated))]
 fn evaluated(
     alloc: Global,

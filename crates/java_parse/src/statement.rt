@@ -24,7 +24,7 @@ use std::alloc::Global;
 use token_reading::{Refusal, Tokens};
 
 impl<F: Fn(Global, &mut Tokens<'_>, u32, bool) -> Result<Stmt, Refusal>> Statements<F> {
-    /// Statements and the closing brace, behind the opening one (JLS 14.2).
+    /// Statements and the closing brace, after the opening one (JLS 14.2).
     #[tactic(auto, unfolding(java_reading::specs::ReadStmt::stmts))]
     pub fn stmts(&self, tokens: &mut Tokens<'_>) -> Result<Items<Stmt>, Refusal>
         requires part { NestsStatements self.now.parts (F.pre self.now.read) (F.post self.now.read) }
@@ -43,7 +43,7 @@ impl<F: Fn(Global, &mut Tokens<'_>, u32, bool) -> Result<Stmt, Refusal>> Stateme
         Err(Refusal::NoTree)
     }
 
-    /// What stands behind the opening brace of a block.
+    /// What stands after the opening brace of a block.
     #[tactic(auto, unfolding(java_reading::specs::ReadStmt::block))]
     fn block(&self, tokens: &mut Tokens<'_>) -> Result<Stmt, Refusal>
         requires part { NestsStatements self.now.parts (F.pre self.now.read) (F.post self.now.read) }
@@ -114,7 +114,7 @@ impl<F: Fn(Global, &mut Tokens<'_>, u32, bool) -> Result<Stmt, Refusal>> Stateme
         }
     }
 
-    /// What stands behind `if` (JLS 14.9).
+    /// What stands after `if` (JLS 14.9).
     #[tactic(auto, unfolding(java_reading::specs::ReadStmt::if_stmt))]
     fn if_stmt(&self, tokens: &mut Tokens<'_>) -> Result<Stmt, Refusal>
         requires part { NestsStatements self.now.parts (F.pre self.now.read) (F.post self.now.read) }
@@ -128,7 +128,7 @@ impl<F: Fn(Global, &mut Tokens<'_>, u32, bool) -> Result<Stmt, Refusal>> Stateme
         Ok(nodes::if_node(self.alloc, condition, then, other)?)
     }
 
-    /// What stands behind `while` (JLS 14.12).
+    /// What stands after `while` (JLS 14.12).
     #[tactic(auto, unfolding(java_reading::specs::ReadStmt::while_stmt))]
     fn while_stmt(&self, tokens: &mut Tokens<'_>) -> Result<Stmt, Refusal>
         requires part { NestsStatements self.now.parts (F.pre self.now.read) (F.post self.now.read) }
@@ -141,7 +141,7 @@ impl<F: Fn(Global, &mut Tokens<'_>, u32, bool) -> Result<Stmt, Refusal>> Stateme
         Ok(nodes::while_node(self.alloc, condition, body)?)
     }
 
-    /// What stands behind `do` (JLS 14.13).
+    /// What stands after `do` (JLS 14.13).
     #[tactic(auto, unfolding(java_reading::specs::ReadStmt::do_stmt))]
     fn do_stmt(&self, tokens: &mut Tokens<'_>) -> Result<Stmt, Refusal>
         requires part { NestsStatements self.now.parts (F.pre self.now.read) (F.post self.now.read) }
@@ -156,7 +156,7 @@ impl<F: Fn(Global, &mut Tokens<'_>, u32, bool) -> Result<Stmt, Refusal>> Stateme
         Ok(nodes::do_node(self.alloc, body, condition)?)
     }
 
-    /// What stands behind `return` (JLS 14.17).
+    /// What stands after `return` (JLS 14.17).
     #[tactic(auto, unfolding(java_reading::specs::ReadStmt::return_stmt))]
     fn return_stmt(&self, tokens: &mut Tokens<'_>, at: u32) -> Result<Stmt, Refusal>
         requires part { NestsStatements self.now.parts (F.pre self.now.read) (F.post self.now.read) }
@@ -167,7 +167,7 @@ impl<F: Fn(Global, &mut Tokens<'_>, u32, bool) -> Result<Stmt, Refusal>> Stateme
         Ok(Stmt::Return(at, self.ended(tokens)?))
     }
 
-    /// What stands behind `throw` (JLS 14.18).
+    /// What stands after `throw` (JLS 14.18).
     #[tactic(auto, unfolding(java_reading::specs::ReadStmt::throw_stmt))]
     fn throw_stmt(&self, tokens: &mut Tokens<'_>) -> Result<Stmt, Refusal>
         requires part { NestsStatements self.now.parts (F.pre self.now.read) (F.post self.now.read) }
@@ -180,7 +180,7 @@ impl<F: Fn(Global, &mut Tokens<'_>, u32, bool) -> Result<Stmt, Refusal>> Stateme
         Ok(Stmt::Throw(value))
     }
 
-    /// What stands behind `super` where a `(` comes next (JLS 8.8.7).
+    /// What stands after `super` where a `(` comes next (JLS 8.8.7).
     #[tactic(auto, unfolding(java_reading::specs::ReadStmt::super_stmt))]
     fn super_stmt(&self, tokens: &mut Tokens<'_>, at: u32) -> Result<Stmt, Refusal>
         requires part { NestsStatements self.now.parts (F.pre self.now.read) (F.post self.now.read) }

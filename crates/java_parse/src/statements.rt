@@ -61,7 +61,7 @@ pub fn statement(
     .stmt(tokens, in_block)
 }
 
-/// The statements of a body and its closing brace, behind the opening one.
+/// The statements of a body and its closing brace, after the opening one.
 #[tactic(auto, unfolding(java_reading::specs::ReadStmt::body))]
 pub fn body(alloc: Global, tokens: &mut Tokens<'_>, most: u32) -> Result<Items<Stmt>, Refusal>
     requires { most < 200 }

@@ -21,7 +21,7 @@ use Rattle.token_reading.specs.declared.name.TypeTree.{TypeTree}
 use Rattle.java_syntax.specs.declared.statement.Stmt.{Stmt}
 use Rattle.token_reading.specs.Lexeme.{Lexeme, lexeme, Then, sees, sees_word, same_operator, same_keyword}
 use Rattle.token_reading.specs.Types.{IsIdent, Brackets, IsBase}
-use Rattle.token_reading.specs.Height.{type_height, params_height}
+use Rattle.token_reading.specs.Height.{params_height}
 use Rattle.java_syntax.specs.Exprs.{Within}
 use Rattle.java_syntax.specs.Stmts.{Initial, UnendedWithin, Stmts, StmtWithin}
 use Rattle.java_syntax.specs.Classes.{modifier_word, Modifiers, MoreNames, Throws, Answer, Invocable, MemberNode, answer_height, member_type_height, MemberWithin}

@@ -1,6 +1,5 @@
 -- Declarations and simple statements that are read are written.
 use Rattle.std.proofs.Common.{◌≡◌, ℕ, zero, suc, ◌≤◌, ◌<◌, List, [], ◌∷◌, length, Bool, true, false, Option, Some, None, Ok, Err, refl, ◌∙◌, ap, arith}
-use Rattle.java_tokens.specs.declared.token.Keyword.{Keyword}
 use Rattle.java_tokens.specs.declared.token.Operator.{Operator}
 use Rattle.java_tokens.specs.declared.token.Operator.TheVariants as o
 use Rattle.java_tokens.specs.declared.token.TokenKind.{TokenKind}

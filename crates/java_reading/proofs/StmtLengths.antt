@@ -11,14 +11,13 @@ use Rattle.java_syntax.specs.declared.statement.Stmt.TheViews.{roll-out-Stmt}
 use Rattle.token_reading.specs.Lexeme.{Lexeme, sees, same_operator}
 use Rattle.java_syntax.specs.Exprs.{Within}
 use Rattle.java_syntax.specs.Stmts.{StmtLayer, is_declaration, is_block, Unended, local_type_height, UnendedWithin, Simple, Simples, Declares, Start, Stmts, Condition, Ended, Otherwise, Catch, Catches, Finally, StmtNode, StmtWithin}
-use Rattle.token_reading.specs.Outcome.{Outcome}
 use Rattle.java_reading.specs.ReadStmt.{step_operator, unended}
 use Rattle.java_reading.proofs.Begins.{begins_operator}
 use Rattle.java_reading.proofs.ExprFacts.{ExprFacts}
 use Rattle.java_reading.proofs.Shorter.{args_length}
 use Rattle.java_reading.proofs.SimpleFound.{Closes, declaration_or, simple_or}
 use Rattle.java_reading.proofs.StmtBegins.{unended_length, more_simples_length, unended_other, type_local, simple_local}
-use Rattle.token_reading.proofs.Steps.{Or, higher, raise}
+use Rattle.token_reading.proofs.Steps.{Or, raise}
 use Rattle.token_reading.proofs.Lexemes.{then_length, sees_it}
 use Rattle.java_reading.specs.Lookahead.{is_local}
 use Rattle.token_reading.proofs.Found.{none_or}

@@ -22,7 +22,7 @@ use Rattle.java_syntax.specs.declared.statement.Stmt.TheVariants as s
 use Rattle.token_reading.specs.Lexeme.{Lexeme, sees, sees_word}
 use Rattle.java_syntax.specs.Exprs.{Layer}
 use Rattle.java_syntax.specs.Stmts.{handles}
-use Rattle.token_reading.specs.Outcome.{no_tree, too_high, Parser, ◌>>=◌}
+use Rattle.token_reading.specs.Outcome.{no_tree, Parser, ◌>>=◌}
 use Rattle.token_reading.specs.ReadType.{next, expect, expect_word, none_fits, ident, type_tree}
 use Rattle.java_reading.specs.ReadExpr.{args, reading}
 use Rattle.java_reading.specs.Lookahead.{is_local}

@@ -1,5 +1,5 @@
 -- Which expressions the tokens are (JLS 15).
-use Rattle.std.specs.Prelude.{◌≡◌, ℕ, zero, suc, ◌+◌, ◌≤◌, ◌&&◌, if◌then◌else◌, List, [], ◌∷◌, Bool, true, false}
+use Rattle.std.specs.Prelude.{◌≡◌, ℕ, zero, suc, ◌+◌, ◌≤◌, ◌&&◌, List, [], ◌∷◌, Bool, true, false}
 use Rattle.java_tokens.specs.declared.token.Keyword.{Keyword}
 use Rattle.java_tokens.specs.declared.token.Keyword.TheVariants as w
 use Rattle.java_tokens.specs.declared.token.Operator.{Operator}

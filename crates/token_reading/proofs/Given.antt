@@ -32,11 +32,13 @@ word_gives s xs = gives_map (λ a ys t. (t, omega (arith, then_length _ xs ys t)
     (λ h. h) (limited (λ _ ys zs. Then (k.Word s) ys zs) ⊥ xs (expect_word s xs) (expected_word s xs))
 
 pub ident_gives : (xs : List Lexeme) → Takes IsIdent xs ⊥ (ident xs)
-ident_gives xs = gives_map (λ x ys w. (w, omega (arith, ap length w))) (λ h. h) (limited IsIdent ⊥ xs (ident xs) (ident_written xs))
+ident_gives xs =
+    gives_map (λ x ys w. (w, omega (arith, ap length w))) (λ h. h) (limited IsIdent ⊥ xs (ident xs) (ident_written xs))
 
 pub type_gives : (n : ℕ) (xs : List Lexeme) → Takes (TypeWithin n) xs (n < length xs) (type_tree n xs)
 type_gives n xs =
-    gives_map (λ t ys w. (w, omega (arith, type_length t xs ys w.0))) (λ h. h) (limited (TypeWithin n) (n < length xs) xs (type_tree n xs) (type_written n xs))
+    gives_map (λ t ys w. (w, omega (arith, type_length t xs ys w.0))) (λ h. h)
+    (limited (TypeWithin n) (n < length xs) xs (type_tree n xs) (type_written n xs))
 
 -- ---- with no budget left
 
@@ -48,16 +50,17 @@ none_gives (x ∷ xs) = gives_high (omega arith)
 -- ---- parameters
 
 module _ (n : ℕ) where
-  param_gives : (xs : List Lexeme) → Takes (λ t xs rest. Param t xs rest × (param_height t ≤ n)) xs (n < length xs) (param n xs)
+  param_gives : (xs : List Lexeme)
+      → Takes (λ t xs rest. Param t xs rest × (param_height t ≤ n)) xs (n < length xs) (param n xs)
   unfolding param
   param_gives xs =
       gives_then (type_gives n xs) (λ h. h) (λ t ys w. gives_then (ident_gives ys) (λ h. absurd h)
       (λ x zs v. gives (param_of t x) zs (((ys, w.0.0, v.0), w.0.1), omega (arith, w.1, v.1))))
 
   more_params_gives : (fuel : ℕ) (done : List ParamTree) (xs : List Lexeme)
-      → Takes (λ all xs rest. (t : ParamTree) × (more : List ParamTree) × (all ≡ done ++ t ∷ more) × (ys : List Lexeme) × Param t xs ys
-      × MoreParams more ys rest × (params_height (t ∷ more) ≤ n)) xs (n < length xs)
-      (more_params n fuel done xs)
+      → Takes (λ all xs rest. (t : ParamTree) × (more : List ParamTree) × (all ≡ done ++ t ∷ more)
+      × (ys : List Lexeme) × Param t xs ys × MoreParams more ys rest × (params_height (t ∷ more) ≤ n))
+      xs (n < length xs) (more_params n fuel done xs)
   unfolding more_params
   more_params_gives zero done xs = gives_none
   more_params_gives (suc fuel) done xs =
@@ -83,7 +86,8 @@ module _ (n : ℕ) where
 
   -- parameters in their parentheses, whose types have at most this height
   abbrev pub ParamsWithin : List ParamTree → List Lexeme → List Lexeme → Type 0
-  ParamsWithin all xs rest = (ys : List Lexeme) × Then (k.Op o.LeftParen) xs ys × Params all ys rest × (params_height all ≤ n)
+  ParamsWithin all xs rest =
+      (ys : List Lexeme) × Then (k.Op o.LeftParen) xs ys × Params all ys rest × (params_height all ≤ n)
 
   pub params_gives : (xs : List Lexeme) → Takes ParamsWithin xs (n < length xs) (params n xs)
   unfolding params
@@ -92,6 +96,8 @@ module _ (n : ℕ) where
       (λ h. let u = from_sees o.RightParen ys h in
       gives [] (next ys) ((ys, t.0, u, omega arith), omega (arith, t.1, then_length _ ys (next ys) u)))
       (λ h. gives_map (λ all us v.
-      let w = subst (λ (l : List ParamTree). Params l ys us × (params_height l ≤ n)) (sym v.0.2) ((v.0.3, v.0.4, v.0.5), v.0.6) in
+      let w =
+      subst (λ (l : List ParamTree). Params l ys us × (params_height l ≤ n)) (sym v.0.2)
+      ((v.0.3, v.0.4, v.0.5), v.0.6) in
       ((ys, t.0, w.0, w.1), omega (arith, t.1, v.1)))
       (λ h. omega (arith, t.1)) (more_params_gives (length ys) [] ys)))

@@ -45,18 +45,22 @@ pub ident_read : (x : Ident) (xs rest : List Lexeme) → IsIdent x xs rest → i
 unfolding ident
 ident_read x xs rest w = rw w refl
 
-pub brackets_read : (n fuel found all : ℕ) (xs rest : List Lexeme) → found + n ≡ all → n ≤ fuel → Brackets n xs rest → sees o.LeftBracket rest ≡ false
+pub brackets_read : (n fuel found all : ℕ) (xs rest : List Lexeme) → found + n ≡ all → n ≤ fuel → Brackets n xs rest
+    → sees o.LeftBracket rest ≡ false
     → brackets fuel found xs ≡ Ok (all, rest)
 unfolding brackets same_operator
 brackets_read zero zero found all xs rest is room w shut = let same : found ≡ all = omega arith in rw (w, same) refl
-brackets_read zero (suc fuel) found all xs rest is room w shut = let same : found ≡ all = omega arith in rw (w, shut, same) refl
+brackets_read zero (suc fuel) found all xs rest is room w shut =
+    let same : found ≡ all = omega arith in rw (w, shut, same) refl
 brackets_read (suc n) zero found all xs rest is room w shut = absurd (omega arith)
 brackets_read (suc n) (suc fuel) found all xs rest is room w shut =
-    rw (w.1.1, w.3.1, expect_it o.RightBracket w.3.0 w.2) (brackets_read n fuel (found + 1) all w.2 rest (omega arith) (omega arith) w.4 shut)
+    rw (w.1.1, w.3.1, expect_it o.RightBracket w.3.0 w.2)
+    (brackets_read n fuel (found + 1) all w.2 rest (omega arith) (omega arith) w.4 shut)
 
 pub brackets_length : (n : ℕ) (xs rest : List Lexeme) → Brackets n xs rest → n + n + length rest ≡ length xs
 brackets_length zero xs rest w = omega (arith, ap length w)
-brackets_length (suc n) xs rest w = omega (arith, then_length _ xs w.0 w.1, then_length _ w.0 w.2 w.3, brackets_length n w.2 rest w.4)
+brackets_length (suc n) xs rest w =
+    omega (arith, then_length _ xs w.0 w.1, then_length _ w.0 w.2 w.3, brackets_length n w.2 rest w.4)
 
 pub base_length : (b : BaseType) (xs rest : List Lexeme) → IsBase b xs rest → length xs ≡ length rest + 1
 base_length base.Int xs rest t = then_length _ xs rest t
@@ -74,18 +78,22 @@ type_length t xs rest w = omega (arith, base_length t.base xs w.0 w.1, brackets_
 
 -- ---- what is read is written
 
-sees_kind : (s : Operator) (x : Lexeme) (xs : List Lexeme) (kd : TokenKind) → x.kind ≡ kd → is_operator s kd ≡ true → Then (k.Op s) (x ∷ xs) xs
+sees_kind : (s : Operator) (x : Lexeme) (xs : List Lexeme) (kd : TokenKind) → x.kind ≡ kd → is_operator s kd ≡ true
+    → Then (k.Op s) (x ∷ xs) xs
 unfolding same_operator
-sees_kind s x xs (k.Op t) is h = (x.at, ap (λ kd. lexeme x.at kd ∷ xs) (is ∙ ap k.Op (same_true operator_type (search rules) t s h)))
+sees_kind s x xs (k.Op t) is h =
+    (x.at, ap (λ kd. lexeme x.at kd ∷ xs) (is ∙ ap k.Op (same_true operator_type (search rules) t s h)))
 sees_kind s x xs _ is h = absurd (cc)
 
 pub from_sees : (s : Operator) (xs : List Lexeme) → sees s xs ≡ true → Then (k.Op s) xs (next xs)
 from_sees s [] h = absurd (cc)
 from_sees s (x ∷ xs) h = sees_kind s x xs x.kind refl h
 
-word_kind : (s : Keyword) (x : Lexeme) (xs : List Lexeme) (kd : TokenKind) → x.kind ≡ kd → is_keyword s kd ≡ true → Then (k.Word s) (x ∷ xs) xs
+word_kind : (s : Keyword) (x : Lexeme) (xs : List Lexeme) (kd : TokenKind) → x.kind ≡ kd → is_keyword s kd ≡ true
+    → Then (k.Word s) (x ∷ xs) xs
 unfolding same_keyword
-word_kind s x xs (k.Word t) is h = (x.at, ap (λ kd. lexeme x.at kd ∷ xs) (is ∙ ap k.Word (same_true keyword_type (search rules) t s h)))
+word_kind s x xs (k.Word t) is h =
+    (x.at, ap (λ kd. lexeme x.at kd ∷ xs) (is ∙ ap k.Word (same_true keyword_type (search rules) t s h)))
 word_kind s x xs _ is h = absurd (cc)
 
 pub from_sees_word : (s : Keyword) (xs : List Lexeme) → sees_word s xs ≡ true → Then (k.Word s) xs (next xs)
@@ -116,7 +124,8 @@ expected s xs = expected_by s xs (sees s xs) refl
 abbrev pub ExpectedWord : Keyword → List Lexeme → Outcome (Unit {0}) → Type 0
 ExpectedWord s = Plainly (λ _ ys zs. Then (k.Word s) ys zs)
 
-expected_word_by : (s : Keyword) (xs : List Lexeme) (t : Bool) → sees_word s xs ≡ t → ExpectedWord s xs (expect_word s xs)
+expected_word_by : (s : Keyword) (xs : List Lexeme) (t : Bool) → sees_word s xs ≡ t
+    → ExpectedWord s xs (expect_word s xs)
 unfolding expect_word
 expected_word_by s xs true h = rw h (from_sees_word s xs h)
 expected_word_by s xs false h = rw h tt
@@ -124,7 +133,8 @@ expected_word_by s xs false h = rw h tt
 pub expected_word : (s : Keyword) (xs : List Lexeme) → ExpectedWord s xs (expect_word s xs)
 expected_word s xs = expected_word_by s xs (sees_word s xs) refl
 
-ident_kind : (x : Lexeme) (xs : List Lexeme) (kd : TokenKind) → x.kind ≡ kd → Plainly IsIdent (x ∷ xs) (ident_by x.at kd xs)
+ident_kind : (x : Lexeme) (xs : List Lexeme) (kd : TokenKind) → x.kind ≡ kd
+    → Plainly IsIdent (x ∷ xs) (ident_by x.at kd xs)
 ident_kind x xs (k.Ident y) is = ap (λ kd. lexeme x.at kd ∷ xs) is
 ident_kind x xs _ is = tt
 
@@ -133,12 +143,14 @@ unfolding ident
 ident_written [] = tt
 ident_written (x ∷ xs) = ident_kind x xs x.kind refl
 
-base_word : (x : Lexeme) (xs : List Lexeme) (s : Keyword) → x.kind ≡ k.Word s → Plainly IsBase (x ∷ xs) (base_keyword s xs)
+base_word : (x : Lexeme) (xs : List Lexeme) (s : Keyword) → x.kind ≡ k.Word s
+    → Plainly IsBase (x ∷ xs) (base_keyword s xs)
 base_word x xs w.Int is = (x.at, ap (λ kd. lexeme x.at kd ∷ xs) is)
 base_word x xs w.Boolean is = (x.at, ap (λ kd. lexeme x.at kd ∷ xs) is)
 base_word x xs _ is = tt
 
-base_kind : (x : Lexeme) (xs : List Lexeme) (kd : TokenKind) → x.kind ≡ kd → Plainly IsBase (x ∷ xs) (base_by x.at kd xs)
+base_kind : (x : Lexeme) (xs : List Lexeme) (kd : TokenKind) → x.kind ≡ kd
+    → Plainly IsBase (x ∷ xs) (base_by x.at kd xs)
 base_kind x xs (k.Ident y) is = ap (λ kd. lexeme x.at kd ∷ xs) is
 base_kind x xs (k.Word s) is = base_word x xs s is
 base_kind x xs _ is = tt
@@ -152,32 +164,41 @@ base_written (x ∷ xs) = base_kind x xs x.kind refl
 abbrev pub MoreBrackets : ℕ → ℕ → List Lexeme → List Lexeme → Type 0
 MoreBrackets found all xs rest = (n : ℕ) × (all ≡ found + n) × Brackets n xs rest × (sees o.LeftBracket rest ≡ false)
 
-brackets_one : (found : ℕ) (xs ys zs : List Lexeme) → Then (k.Op o.LeftBracket) xs ys → Then (k.Op o.RightBracket) ys zs → (r : Outcome ℕ)
+brackets_one : (found : ℕ) (xs ys zs : List Lexeme) → Then (k.Op o.LeftBracket) xs ys → Then (k.Op o.RightBracket) ys zs
+    → (r : Outcome ℕ)
     → Plainly (MoreBrackets (found + 1)) zs r → Plainly (MoreBrackets found) xs r
 brackets_one found xs ys zs t u (Ok p) s = (suc s.0, omega (arith, s.1), (ys, t, zs, u, s.2), s.3)
 brackets_one found xs ys zs t u (Err no_tree) s = tt
 brackets_one found xs ys zs t u (Err too_high) s = s
 
-brackets_close : (fuel found : ℕ) → ((found : ℕ) (xs : List Lexeme) → length xs ≤ fuel → Plainly (MoreBrackets found) xs (brackets fuel found xs))
-    → (xs ys : List Lexeme) → length xs ≤ suc fuel → Then (k.Op o.LeftBracket) xs ys → (r : Outcome (Unit {0})) → Expected o.RightBracket ys r
+brackets_close : (fuel found : ℕ)
+    → ((found : ℕ) (xs : List Lexeme) → length xs ≤ fuel → Plainly (MoreBrackets found) xs (brackets fuel found xs))
+    → (xs ys : List Lexeme) → length xs ≤ suc fuel → Then (k.Op o.LeftBracket) xs ys → (r : Outcome (Unit {0}))
+    → Expected o.RightBracket ys r
     → Plainly (MoreBrackets found) xs (r >>= (λ _ zs. brackets fuel (found + 1) zs))
 brackets_close fuel found ih xs ys room t (Ok p) u =
-    brackets_one found xs ys p.1 t u (brackets fuel (found + 1) p.1) (ih (found + 1) p.1 (omega (arith, then_length _ xs ys t, then_length _ ys p.1 u)))
+    brackets_one found xs ys p.1 t u (brackets fuel (found + 1) p.1)
+    (ih (found + 1) p.1 (omega (arith, then_length _ xs ys t, then_length _ ys p.1 u)))
 brackets_close fuel found ih xs ys room t (Err no_tree) u = tt
 brackets_close fuel found ih xs ys room t (Err too_high) u = absurd u
 
-brackets_test : (fuel found : ℕ) → ((found : ℕ) (xs : List Lexeme) → length xs ≤ fuel → Plainly (MoreBrackets found) xs (brackets fuel found xs))
+brackets_test : (fuel found : ℕ)
+    → ((found : ℕ) (xs : List Lexeme) → length xs ≤ fuel → Plainly (MoreBrackets found) xs (brackets fuel found xs))
     → (xs : List Lexeme) → length xs ≤ suc fuel → (t : Bool) → sees o.LeftBracket xs ≡ t
-    → Plainly (MoreBrackets found) xs (if t then (expect o.RightBracket (next xs) >>= (λ _ zs. brackets fuel (found + 1) zs)) else Ok (found, xs))
+    → Plainly (MoreBrackets found) xs
+    (if t then (expect o.RightBracket (next xs) >>= (λ _ zs. brackets fuel (found + 1) zs)) else Ok (found, xs))
 brackets_test fuel found ih xs room true t =
-    brackets_close fuel found ih xs (next xs) room (from_sees o.LeftBracket xs t) (expect o.RightBracket (next xs)) (expected o.RightBracket (next xs))
+    brackets_close fuel found ih xs (next xs) room (from_sees o.LeftBracket xs t)
+    (expect o.RightBracket (next xs)) (expected o.RightBracket (next xs))
 brackets_test fuel found ih xs room false t = (0, omega arith, refl, t)
 
-pub brackets_written : (fuel found : ℕ) (xs : List Lexeme) → length xs ≤ fuel → Plainly (MoreBrackets found) xs (brackets fuel found xs)
+pub brackets_written : (fuel found : ℕ) (xs : List Lexeme) → length xs ≤ fuel
+    → Plainly (MoreBrackets found) xs (brackets fuel found xs)
 unfolding brackets
 brackets_written zero found [] room = (0, omega arith, refl, refl)
 brackets_written zero found (x ∷ xs) room = absurd (omega arith)
-brackets_written (suc fuel) found xs room = brackets_test fuel found (brackets_written fuel) xs room (sees o.LeftBracket xs) refl
+brackets_written (suc fuel) found xs room =
+    brackets_test fuel found (brackets_written fuel) xs room (sees o.LeftBracket xs) refl
 
 -- pairs of brackets within the limit, and no `[` after them
 abbrev pub IsPairs : ℕ → ℕ → List Lexeme → List Lexeme → Type 0
@@ -208,7 +229,8 @@ pairs_low most d xs rest is =
 abbrev pub TypeWithin : ℕ → TypeTree → List Lexeme → List Lexeme → Type 0
 TypeWithin most t xs rest = IsType t xs rest × (type_height t ≤ most)
 
-type_pairs : (most : ℕ) (b : BaseType) (xs ys : List Lexeme) → IsBase b xs ys → (r : Outcome ℕ) → Limited (IsPairs most) (most < length ys) ys r
+type_pairs : (most : ℕ) (b : BaseType) (xs ys : List Lexeme) → IsBase b xs ys → (r : Outcome ℕ)
+    → Limited (IsPairs most) (most < length ys) ys r
     → Limited (TypeWithin most) (most < length xs) xs (r >>= (λ n zs. Ok (type_of b n, zs)))
 type_pairs most b xs ys w (Ok p) s = ((ys, w, s.0), s.1)
 type_pairs most b xs ys w (Err no_tree) s = tt
@@ -224,6 +246,7 @@ pub type_written : (most : ℕ) (xs : List Lexeme) → Limited (TypeWithin most)
 unfolding type_tree
 type_written most xs = type_base most xs (base_type xs) (base_written xs)
 
-pub type_low : (most : ℕ) (t : TypeTree) (xs rest : List Lexeme) → type_tree most xs ≡ Ok (t, rest) → type_height t ≤ most
+pub type_low : (most : ℕ) (t : TypeTree) (xs rest : List Lexeme) → type_tree most xs ≡ Ok (t, rest)
+    → type_height t ≤ most
 type_low most t xs rest is =
     (subst (λ (o : Outcome TypeTree). Limited (TypeWithin most) (most < length xs) xs o) is (type_written most xs)).1

@@ -1,12 +1,9 @@
 -- Pairs of brackets.
 use Rattle.std.proofs.Common.{◌≡◌, ◌<◌, List, [], ◌∷◌, length, ◌&&◌, Bool, true, false, refl, arith}
 use Rattle.java_tokens.specs.declared.token.Operator.TheVariants as o
-use Rattle.token_reading.specs.Lexeme.{Lexeme, is_operator, sees}
+use Rattle.token_reading.specs.Lexeme.{Lexeme, is_operator}
 use Rattle.token_reading.specs.Types.{past_brackets}
-use Rattle.token_reading.specs.ReadType.{next}
-
-abbrev pub sees_pair : List Lexeme → Bool
-sees_pair xs = sees o.LeftBracket xs && sees o.RightBracket (next xs)
+use Rattle.token_reading.specs.ReadType.{next, sees_pair}
 
 not_both : (b : Bool) → b && false ≡ true → ⊥
 not_both true h = cc
@@ -26,3 +23,5 @@ pub pair_shorter : (xs : List Lexeme) → sees_pair xs ≡ true → length (next
 pair_shorter [] h = absurd (cc)
 pair_shorter (x ∷ []) h = absurd (not_both (is_operator o.LeftBracket x.kind) h)
 pair_shorter (x ∷ y ∷ xs) h = omega arith
+
+pub ruleset pairs = (past_pair, past_none, pair_shorter)

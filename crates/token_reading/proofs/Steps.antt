@@ -23,7 +23,8 @@ raise (found r) = found r
 raise (higher h r) = higher (omega arith) r
 
 -- a test of a height
-pub limit_or : {A : Type 0} (n b h : ℕ) (good : Outcome A) (t : Bool) → nat_lt b h ≡ t → h ≤ n → Or n b (if t then Err too_high else good) good
+pub limit_or : {A : Type 0} (n b h : ℕ) (good : Outcome A) (t : Bool) → nat_lt b h ≡ t → h ≤ n
+    → Or n b (if t then Err too_high else good) good
 limit_or n b h good true t low = higher (omega (arith, from_below b h t)) refl
 limit_or n b h good false t low = found refl
 
@@ -35,7 +36,8 @@ pub data Gives {A : Type 0} (P : A → List Lexeme → Type 0) (H : Type 0) : Ou
   gives_none : Gives P H (Err no_tree)
   gives_high : H → Gives P H (Err too_high)
 
-pub gives_then : {A B : Type 0} {P : A → List Lexeme → Type 0} {Q : B → List Lexeme → Type 0} {H H' : Type 0} {o : Outcome A} {f : A → Parser B}
+pub gives_then : {A B : Type 0} {P : A → List Lexeme → Type 0} {Q : B → List Lexeme → Type 0} {H H' : Type 0}
+    {o : Outcome A} {f : A → Parser B}
     → Gives P H o → (H → H') → ((a : A) (ys : List Lexeme) → P a ys → Gives Q H' (f a ys)) → Gives Q H' (o >>= f)
 gives_then (gives a ys w) up k = k a ys w
 gives_then gives_none up k = gives_none
@@ -54,7 +56,8 @@ gives_if true yes_ no_ = yes_ refl
 gives_if false yes_ no_ = no_ refl
 
 -- the same of readers of tokens and types
-pub limited : {A : Type 0} (R : A → List Lexeme → List Lexeme → Type 0) (H : Type 0) (xs : List Lexeme) (o : Outcome A) → Limited R H xs o
+pub limited : {A : Type 0} (R : A → List Lexeme → List Lexeme → Type 0) (H : Type 0) (xs : List Lexeme) (o : Outcome A)
+    → Limited R H xs o
     → Gives (λ a ys. R a xs ys) H o
 limited R H xs (Ok p) w = gives p.0 p.1 w
 limited R H xs (Err no_tree) w = gives_none

@@ -1,5 +1,5 @@
 -- Reading of single tokens, identifiers, types and parameters, as functions on lists.
-use Rattle.std.specs.Prelude.{ℕ, zero, suc, ◌+◌, nat_lt, if◌then◌else◌, List, [], ◌∷◌, ◌++◌, length, Bool, true, false, Ok, Err}
+use Rattle.std.specs.Prelude.{ℕ, zero, suc, ◌+◌, ◌&&◌, nat_lt, if◌then◌else◌, List, [], ◌∷◌, ◌++◌, length, Bool, true, false, Ok, Err}
 use Rattle.java_tokens.specs.declared.token.Keyword.{Keyword}
 use Rattle.java_tokens.specs.declared.token.Keyword.TheVariants as w
 use Rattle.java_tokens.specs.declared.token.Operator.{Operator}
@@ -60,7 +60,12 @@ ident (x ∷ xs) = ident_by x.at x.kind xs
 unfoldable pub brackets : ℕ → ℕ → Parser ℕ
 brackets zero found xs = Ok (found, xs)
 brackets (suc n) found xs =
-    if sees o.LeftBracket xs then (expect o.RightBracket (next xs) >>= (λ _ ys. brackets n (found + 1) ys)) else Ok (found, xs)
+    if sees o.LeftBracket xs then (expect o.RightBracket (next xs) >>= (λ _ ys. brackets n (found + 1) ys))
+    else Ok (found, xs)
+
+-- a pair of brackets comes first
+abbrev pub sees_pair : List Lexeme → Bool
+sees_pair xs = sees o.LeftBracket xs && sees o.RightBracket (next xs)
 
 -- all pairs of brackets that come first, at most this many
 unfoldable pub pairs : ℕ → Parser ℕ
@@ -107,4 +112,5 @@ more_params most (suc n) found xs =
 -- the parameters in their parentheses
 unfoldable pub params : ℕ → Parser (List ParamTree)
 params most xs =
-    expect o.LeftParen xs >>= (λ _ ys. if sees o.RightParen ys then Ok ([], next ys) else more_params most (length ys) [] ys)
+    expect o.LeftParen xs >>= (λ _ ys.
+    if sees o.RightParen ys then Ok ([], next ys) else more_params most (length ys) [] ys)

@@ -18,7 +18,8 @@ IsIdent x xs rest = xs ≡ lexeme x.at (k.Ident x.name) ∷ rest
 abbrev pub Brackets : ℕ → List Lexeme → List Lexeme → Type 0
 Brackets zero xs rest = xs ≡ rest
 Brackets (suc n) xs rest =
-    (ys : List Lexeme) × Then (k.Op o.LeftBracket) xs ys × (zs : List Lexeme) × Then (k.Op o.RightBracket) ys zs × Brackets n zs rest
+    (ys : List Lexeme) × Then (k.Op o.LeftBracket) xs ys
+    × (zs : List Lexeme) × Then (k.Op o.RightBracket) ys zs × Brackets n zs rest
 
 -- `int`, `boolean` or the name of a class
 abbrev pub IsBase : BaseType → List Lexeme → List Lexeme → Type 0

@@ -4,9 +4,8 @@
 //! Type = ( "int" | "boolean" | Ident ) { "[" "]" }
 //! ```
 
-ghost use Rattle.std.specs.Prelude.{◌≡◌, ◌≤◌, ◌&&◌, IfOk, length};
+ghost use Rattle.std.specs.Prelude.{◌≡◌, ◌≤◌, IfOk, length};
 ghost use Rattle.token_reading.specs.Height.{type_height};
-ghost use Rattle.token_reading.specs.Lexeme as grammar;
 ghost use Rattle.token_reading.specs.Types.{castable, past_brackets};
 ghost use Rattle.token_reading.specs.ReadType as spec;
 ghost use Rattle.token_reading.specs.Reads.{Reads};
@@ -40,14 +39,14 @@ impl Tokens<'_> {
 
     /// Whether `[` and `]` come next.
     fn sees_brackets(&self) -> bool
-        ensures { result ≡ (grammar.sees Operator.LeftBracket self.now && grammar.sees Operator.RightBracket (spec.next self.now)) }
+        ensures { result ≡ spec.sees_pair self.now }
     {
         let mut ahead = self.fork();
         ahead.eat(Operator::LeftBracket) && ahead.sees(Operator::RightBracket)
     }
 
     /// Goes after all pairs of brackets that come next.
-    #[tactic(auto, using(crate::proofs::Pairs::past_pair, crate::proofs::Pairs::past_none, crate::proofs::Pairs::pair_shorter))]
+    #[tactic(auto, using(crate::proofs::Pairs::pairs))]
     pub fn skip_brackets(&mut self)
         ensures { self.new ≡ past_brackets self.old }
     {

@@ -1,4 +1,4 @@
--- Calls behind a dot: which method they mean.
+-- Calls after a dot: which method they mean.
 use Rattle.std.proofs.Common.{◌≡◌, ℕ, List, [], Option, Some, None, length, refl}
 use Rattle.std.specs.Prelude.{option_map}
 use Rattle.core_tree.specs.Types.{class_of}
@@ -28,7 +28,7 @@ pub record Means (k : Option Call) (c : ℕ) (m : Ident) (xs : List Known) : Typ
   pub name : call.name ≡ m
   pub arguments : call.arguments ≡ xs
 
--- a call behind an object
+-- a call through an object
 abbrev on_object : Ident → List Known → Option ℕ → Option Call
 on_object m xs k = option_map (λ c. record { through = through.Object; class = c; object = tt; name = m; arguments = xs }) k
 
@@ -60,7 +60,7 @@ none_means o m xs (Some denotes.Output) is = refl
 none_means o m xs (Some (denotes.Print p)) is = refl
 none_means o m xs None is = refl
 
--- what a call behind a dot gives, where its method is looked up in a class
+-- what a call after a dot gives, where its method is looked up in a class
 pub found_gives : (s : Symbols) (scope : Scope) (o : Known) (m : Ident) (xs : List Known) (c : ℕ) → receiver o.denotes ≡ Some c
     → denotes_at of_known s scope (Expr-F.Method o m xs) ≡ gives (method_named s c m.name (length xs))
 found_gives s scope o m xs c is =

@@ -4,6 +4,7 @@ use Rattle.core_tree.specs.declared.ty.Ty.{Ty}
 use Rattle.core_tree.specs.Types.{class_of}
 use Rattle.token_reading.specs.declared.name.Ident.{Ident}
 use Rattle.java_syntax.specs.declared.expression.Expr.TheOpen.{Expr-F}
+use Rattle.class_table.specs.Names.{Name}
 use Rattle.java_names.specs.declared.scope.Scope.{Scope}
 use Rattle.java_names.specs.declared.symbol.FieldSymbol.{FieldSymbol}
 use Rattle.java_names.specs.declared.symbol.MethodSymbol.{MethodSymbol}
@@ -58,12 +59,12 @@ abbrev pub is_behind_object : Through → Bool
 is_behind_object through.Object = true
 is_behind_object _ = false
 
--- behind an object only instance fields are found
+-- through an object only instance fields are found
 abbrev pub is_found : Through → FieldSymbol → Bool
 is_found through m = is_some m.place || not (is_behind_object through)
 
 -- the field or constant of class c that is found through it or through an object of it
-abbrev pub found_through : Symbols → Through → ℕ → List ℕ → Option FieldSymbol
+abbrev pub found_through : Symbols → Through → ℕ → Name → Option FieldSymbol
 found_through s through c x = option_and_then (λ m. if is_found through m then Some m else None) (field_of s c x)
 
 -- the field or constant that a node names
@@ -72,7 +73,7 @@ named_member s k = found_through s k.through k.class k.name.name
 
 -- ---- methods
 
--- the class in which a method behind a dot is looked up; none where the library's are meant
+-- the class in which a method after a dot is looked up; none where the library's are meant
 abbrev pub receiver : Option Denotation → Option ℕ
 receiver (Some (denotes.Class c)) = Some c
 receiver d = object_class d

@@ -10,7 +10,7 @@ use crate::forms::{class_of, elements_of, is_boolean, is_int, is_null, is_object
 use core_tree::Ty;
 use java_names::Symbols;
 
-/// Whether the type is the class type of this class or of one above it.
+// Whether the type is the class type of this class or of one above it.
 fn is_above(symbols: &Symbols, class: u32, to: &Ty) -> bool
     ensures { result ≡ option_map_or (names.is_below symbols.now class) (of.class_of to.now) false }
 {

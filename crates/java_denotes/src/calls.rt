@@ -66,7 +66,7 @@ pub fn gives(alloc: Global, method: Option<&MethodSymbol>) -> Result<Option<Deno
     }
 }
 
-/// The class in which a method is looked up that stands behind this and a dot: a class, or the class of an object. `None`
+/// The class in which a method is looked up that stands after this and a dot: a class, or the class of an object. `None`
 /// where the library's are meant.
 pub fn receiver(o: &Known) -> Option<u32>
     ensures { result ≡ members.receiver o.now.denotes }

@@ -55,7 +55,7 @@ pub fn is_length(name: &Name) -> bool
     name.characters() == ['l', 'e', 'n', 'g', 't', 'h'].as_slice()
 }
 
-/// What a name behind a value denotes that is no object of a class: the length of an array.
+/// What a name after a value denotes that is no object of a class: the length of an array.
 pub fn array_field(name: &Name, ty: &Ty) -> Option<Denotation>
     ensures { result ≡ spec.library_field name.now (Some (Denotation.Value ty.now)) }
 {
@@ -66,7 +66,7 @@ pub fn array_field(name: &Name, ty: &Ty) -> Option<Denotation>
     }
 }
 
-/// What a name behind a dot denotes where it is no field of a class: `System.out`, or the length of an array.
+/// What a name after a dot denotes where it is no field of a class: `System.out`, or the length of an array.
 pub fn library_field(name: &Name, object: &Option<Denotation>) -> Option<Denotation>
     ensures { result ≡ spec.library_field name.now object.now }
 {
@@ -96,7 +96,7 @@ pub fn text_method(name: &Name) -> Option<Denotation>
     }
 }
 
-/// A print.
+// A print.
 fn output_method(
     symbols: &Symbols,
     scope: &Scope,
@@ -114,7 +114,7 @@ fn output_method(
     }))
 }
 
-/// What a call behind a dot gives where it calls no method of a class: a print, or a method of a String.
+/// What a call after a dot gives where it calls no method of a class: a print, or a method of a String.
 pub fn library_method(
     symbols: &Symbols,
     scope: &Scope,

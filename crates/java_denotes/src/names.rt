@@ -19,7 +19,8 @@ use java_tokens::Name;
 use sqlite_items::at;
 use std::alloc::{AllocError, Global};
 
-/// A variable of this type; nothing is known of one whose type has an unknown name.
+/// What a variable of this type denotes: a value of it; `None` for `Void`, the type of a declaration whose type has an unknown
+/// name. `AllocError` where there is no memory left.
 pub fn variable(alloc: Global, ty: &Ty) -> Result<Option<Denotation>, AllocError>
     ensures { IfOk result (λ d. d ≡ names.variable_denotes ty.now) }
 {
@@ -29,7 +30,8 @@ pub fn variable(alloc: Global, ty: &Ty) -> Result<Option<Denotation>, AllocError
     Ok(Some(Denotation::Value(copy(alloc, ty)?)))
 }
 
-/// The local with this number.
+/// What the local with this number denotes; `None` where there is none, and where its type has an unknown name. `AllocError`
+/// where there is no memory left.
 pub fn local(alloc: Global, scope: &Scope, number: u32) -> Result<Option<Denotation>, AllocError>
     ensures { IfOk result (λ d. d ≡ names.local_denotes scope.now number) }
 {
@@ -39,7 +41,7 @@ pub fn local(alloc: Global, scope: &Scope, number: u32) -> Result<Option<Denotat
     }
 }
 
-/// A class, or `System`.
+/// What a name before a dot denotes that is no variable: a class, or `System`; `None` where it is neither (JLS 6.5.2).
 pub fn class_or_system(symbols: &Symbols, name: &Name) -> Option<Denotation>
     ensures { result ≡ spec.class_denotes symbols.now name.now }
 {
@@ -55,7 +57,7 @@ pub fn class_or_system(symbols: &Symbols, name: &Name) -> Option<Denotation>
     }
 }
 
-/// A field or constant of the class, else a class or `System`.
+// A field or constant of the class, else a class or `System`.
 fn member_or_class(
     alloc: Global,
     symbols: &Symbols,
@@ -70,8 +72,9 @@ fn member_or_class(
     }
 }
 
-/// What a name denotes: a local, else a field or constant of the class, else a class or `System`. `AllocError` where there
-/// is no memory left.
+/// What a name denotes: a local, else a field or constant of the class or its superclasses, else a class or `System`; `None`
+/// where it is unknown, and where the type of its declaration has an unknown name. `AllocError` where there is no memory
+/// left.
 pub fn name(
     alloc: Global,
     symbols: &Symbols,
@@ -86,7 +89,8 @@ pub fn name(
     }
 }
 
-/// The field or constant of that name in a class; behind an object only an instance field.
+/// The field or constant of that name in class number `class`, its own or an inherited one; through an object only an
+/// instance field. `None` where there is none (JLS 8.2, 15.11).
 pub fn found<'a>(
     symbols: &'a Symbols,
     through: Through,
@@ -107,7 +111,7 @@ pub fn found<'a>(
     }
 }
 
-/// A field or constant behind a class or an object of it.
+// A field or constant through a class or an object of it.
 fn member(
     alloc: Global,
     symbols: &Symbols,
@@ -123,7 +127,7 @@ fn member(
     }
 }
 
-/// A name behind a value.
+// A name after a value.
 fn behind_value(
     alloc: Global,
     symbols: &Symbols,
@@ -139,8 +143,8 @@ fn behind_value(
     }
 }
 
-/// What a name behind a dot denotes: a field or constant of a class, `System.out`, or the length of an array. `AllocError`
-/// where there is no memory left.
+/// What a name after a dot denotes: a field or constant of a class, `System.out`, or the length of an array; `None` where it
+/// is unknown, and where the type of its declaration has an unknown name. `AllocError` where there is no memory left.
 pub fn field(
     alloc: Global,
     symbols: &Symbols,

@@ -19,7 +19,8 @@ use java_syntax::{BaseType, BinaryOp, CheckError, TypeTree, UnaryOp};
 use sqlite_items::Boxed;
 use std::alloc::{AllocError, Global};
 
-/// A value of the type that is spelled.
+/// A value of the type that is spelled, as a cast gives; `None` where its name is unknown (JLS 15.16). `AllocError` where there
+/// is no memory left, or where the type has more than 255 pairs of brackets.
 pub fn spelled(
     alloc: Global,
     symbols: &Symbols,
@@ -33,7 +34,8 @@ pub fn spelled(
     }
 }
 
-/// A new array whose elements have this base and so many pairs of brackets.
+/// A new array whose elements have this base and that many pairs of brackets; `None` where the base's name is unknown (JLS
+/// 15.10.1). `AllocError` where there is no memory left, or where there are more than 255 pairs.
 #[tactic(auto, using(crate::proofs::BaseLemmas::no_base))]
 pub fn array(
     alloc: Global,
@@ -53,7 +55,7 @@ pub fn array(
     }
 }
 
-/// A value of this type, where there is one.
+// A value of this type, where there is one.
 fn value(alloc: Global, ty: Option<&Ty>) -> Result<Option<Denotation>, AllocError>
     ensures { IfOk result (λ d. d ≡ spec.value (option_copied ty.entry)) }
 {
@@ -63,7 +65,7 @@ fn value(alloc: Global, ty: Option<&Ty>) -> Result<Option<Denotation>, AllocErro
     }
 }
 
-/// The type of the elements of an array.
+// The type of the elements of an array.
 fn elements(a: &Known) -> Option<&Ty>
     ensures { option_copied result ≡ option_and_then of.elements_of (value_type a.now.denotes) }
 {
@@ -73,14 +75,14 @@ fn elements(a: &Known) -> Option<&Ty>
     }
 }
 
-/// An element of an array.
+/// An element of an array; `None` where `a` is no array. `AllocError` where there is no memory left.
 pub fn element(alloc: Global, a: &Known) -> Result<Option<Denotation>, AllocError>
     ensures { IfOk result (λ d. d ≡ spec.value (option_and_then of.elements_of (value_type a.now.denotes))) }
 {
     value(alloc, elements(a))
 }
 
-/// Whether the type is that of a String.
+// Whether the type is that of a String.
 fn is_text(ty: Option<&Ty>) -> bool
     ensures { result ≡ spec.is_text (option_copied ty.entry) }
 {
@@ -90,7 +92,7 @@ fn is_text(ty: Option<&Ty>) -> bool
     }
 }
 
-/// The type of `&`, `|` and `^`.
+// The type of `&`, `|` and `^`.
 fn bitwise_type(l: Option<&Ty>) -> Option<Ty>
     ensures { result ≡ spec.bitwise_type (option_copied l.entry) }
 {
@@ -106,7 +108,7 @@ fn bitwise_type(l: Option<&Ty>) -> Option<Ty>
     }
 }
 
-/// The type of `+`.
+// The type of `+`.
 fn sum_type(l: Option<&Ty>, r: Option<&Ty>) -> Option<Ty>
     ensures { result ≡ spec.sum_type (option_copied l.entry) (option_copied r.entry) }
 {
@@ -122,7 +124,7 @@ fn sum_type(l: Option<&Ty>, r: Option<&Ty>) -> Option<Ty>
     }
 }
 
-/// The type of an operator's result.
+// The type of an operator's result.
 fn binary_type(op: BinaryOp, l: Option<&Ty>, r: Option<&Ty>) -> Option<Ty>
     ensures { result ≡ spec.binary_type op (option_copied l.entry) (option_copied r.entry) }
 {
@@ -140,7 +142,7 @@ fn binary_type(op: BinaryOp, l: Option<&Ty>, r: Option<&Ty>) -> Option<Ty>
     }
 }
 
-/// An operator between two operands.
+/// What an operator between two operands gives; `None` where their types decide, and aren't known (JLS 15.17 to 15.24).
 pub fn binary(op: BinaryOp, l: &Known, r: &Known) -> Option<Denotation>
     ensures { result ≡ spec.value (spec.binary_type op (value_type l.now.denotes) (value_type r.now.denotes)) }
 {
@@ -157,7 +159,7 @@ pub enum Side {
     Second,
 }
 
-/// The side of the wider of two types; `None` where neither can be assigned to the other.
+// The side of the wider of two types; `None` where neither can be assigned to the other.
 fn wider(symbols: &Symbols, a: Option<&Ty>, b: Option<&Ty>) -> Option<Side>
     ensures { option_and_then (λ side. on_side side (option_copied a.entry) (option_copied b.entry)) result ≡ spec.choice_type symbols.now (option_copied a.entry) (option_copied b.entry) }
 {
@@ -178,7 +180,8 @@ fn wider(symbols: &Symbols, a: Option<&Ty>, b: Option<&Ty>) -> Option<Side>
     }
 }
 
-/// A conditional with these operands behind `?`.
+/// A conditional with these operands after `?`: a value of the wider type; `None` where neither type can be assigned to the
+/// other (JLS 15.25).
 pub fn conditional(symbols: &Symbols, a: Known, b: Known) -> Option<Denotation>
     ensures { result ≡ spec.value (spec.choice_type symbols.now (value_type a.denotes) (value_type b.denotes)) }
 {
@@ -189,7 +192,7 @@ pub fn conditional(symbols: &Symbols, a: Known, b: Known) -> Option<Denotation>
     }
 }
 
-/// The type of an operator before an operand.
+/// The type of what an operator before an operand gives (JLS 15.15).
 pub fn unary(op: UnaryOp) -> Ty
     ensures { result ≡ spec.unary_type op }
 {

@@ -9,3 +9,4 @@ pub mod ArgumentLemmas
 pub mod CallLemmas
 pub mod CleanLemmas
 pub mod ValueLemmas
+pub mod DenotesLaw

@@ -6,13 +6,13 @@ ghost use Rattle.java_names.specs.Refusals.{Allows};
 ghost use Rattle.java_exprs.specs.Checks.{of_value, of_values};
 ghost use Rattle.java_exprs.specs.Rules as rule;
 
-use java_denotes::assignability::is_assignable;
 use crate::environment::Environment;
 use crate::fault::fault;
-use java_denotes::forms::is_void;
 use crate::value::Value;
 use class_table::Shared;
 use core_tree::{Expr, Ty};
+use java_denotes::assignability::is_assignable;
+use java_denotes::forms::is_void;
 use java_syntax::CheckError;
 use sqlite_items::Items;
 use std::alloc::{AllocError, Global};

@@ -13,9 +13,9 @@ use crate::arguments::fit_each;
 use crate::environment::Environment;
 use crate::fault::fault;
 use crate::receiver::Receiver;
+use crate::value::Value;
 use java_denotes::Through;
 use java_denotes::calls::method_named;
-use crate::value::Value;
 use java_names::{MethodSymbol, Scope, is_accessible};
 use java_syntax::{CheckError, Ident};
 

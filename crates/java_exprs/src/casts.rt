@@ -8,15 +8,15 @@ ghost use Rattle.java_exprs.specs.Checks.{Checks, attr_at, of_value};
 ghost use Rattle.java_exprs.specs.Lookups as names;
 ghost use Rattle.java_exprs.specs.Rules as rule;
 
-use java_denotes::assignability::is_either_way;
 use crate::environment::Environment;
 use crate::fault::fault;
-use java_denotes::forms::{is_object, is_string};
 use crate::operators::wants_int;
-use java_denotes::Denotation;
 use crate::typed::{Form, Typed};
 use crate::value::Value;
 use core_tree::{Expr, Ty};
+use java_denotes::Denotation;
+use java_denotes::assignability::is_either_way;
+use java_denotes::forms::{is_object, is_string};
 use java_names::{Scope, resolve_type};
 use java_syntax::{BaseType, CheckError, Ident, TypeTree};
 use sqlite_items::Boxed;

@@ -7,9 +7,9 @@ ghost use Rattle.java_exprs.specs.Checks.{Checks, attr_at};
 
 use crate::environment::Environment;
 use crate::fault::fault;
-use java_denotes::Denotation;
 use crate::typed::{Form, Typed};
 use core_tree::{Expr, Text, Ty};
+use java_denotes::Denotation;
 use java_names::Scope;
 use java_syntax::CheckError;
 use java_tokens::Name;

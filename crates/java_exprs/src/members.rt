@@ -16,12 +16,12 @@ ghost use Rattle.java_exprs.specs.Rules as rule;
 
 use crate::environment::Environment;
 use crate::fault::fault;
-use java_denotes::names::variable;
 use primitive_operators::Scalar;
 use crate::receiver::Receiver;
-use java_denotes::{Through, Denotation};
 use crate::typed::{Form, Typed};
 use core_tree::{Expr, Ty};
+use java_denotes::names::variable;
+use java_denotes::{Denotation, Through};
 use java_names::{FieldSymbol, Scope, is_accessible};
 use java_syntax::{CheckError, Ident};
 use sqlite_items::Boxed;

@@ -10,14 +10,14 @@ ghost use Rattle.java_denotes.specs.Denotes as denotes;
 ghost use Rattle.java_exprs.specs.Resolved as resolved;
 ghost use Rattle.java_exprs.specs.Rules as rule;
 
-use java_denotes::assignability::is_either_way;
 use crate::environment::Environment;
 use crate::fault::fault;
-use java_denotes::forms::{is_boolean, is_int, is_null, is_object, is_string};
-use java_denotes::Denotation;
 use crate::typed::{Form, Typed};
 use crate::value::Value;
 use core_tree::{BinOp, Expr, Ty};
+use java_denotes::Denotation;
+use java_denotes::assignability::is_either_way;
+use java_denotes::forms::{is_boolean, is_int, is_null, is_object, is_string};
 use java_names::Scope;
 use java_syntax::{BinaryOp, CheckError};
 use sqlite_items::Boxed;

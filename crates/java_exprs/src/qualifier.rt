@@ -8,9 +8,9 @@ ghost use Rattle.java_exprs.specs.Checks.{attr_at, clean, of_values};
 
 use crate::environment::Environment;
 use crate::fault::fault;
-use java_denotes::Denotation;
 use crate::typed::Typed;
 use crate::value::Value;
+use java_denotes::Denotation;
 use java_names::Scope;
 use java_syntax::{CheckError, Ident};
 

@@ -11,15 +11,15 @@ ghost use Rattle.java_exprs.specs.Rules as rule;
 ghost use Rattle.java_exprs.specs.Denotes as denotes;
 ghost use Rattle.java_denotes.specs.Types as spec;
 
-use java_denotes::assignability::{is_assignable, is_either_way};
 use crate::environment::Environment;
 use crate::fault::fault;
-use java_denotes::forms::is_array;
 use crate::operators::{wants_boolean, wants_int};
-use java_denotes::Denotation;
 use crate::typed::{Form, Typed};
 use crate::value::Value;
 use core_tree::{Expr, Ty};
+use java_denotes::Denotation;
+use java_denotes::assignability::{is_assignable, is_either_way};
+use java_denotes::forms::is_array;
 use java_names::{Scope, Symbols};
 use java_syntax::CheckError;
 use sqlite_items::Boxed;

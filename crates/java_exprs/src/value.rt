@@ -6,9 +6,9 @@ ghost use Rattle.java_names.specs.Refusals.{Refuses};
 ghost use Rattle.java_exprs.specs.Checks.{clean, of_value};
 
 use crate::fault::fault;
-use java_denotes::Denotation;
 use crate::typed::{Form, Typed};
 use core_tree::{Expr, Ty};
+use java_denotes::Denotation;
 use java_syntax::CheckError;
 
 /// What is known of an expression that breaks no rule and has a value.

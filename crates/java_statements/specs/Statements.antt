@@ -29,7 +29,7 @@ use Rattle.java_syntax.specs.declared.statement.Stmt.TheFolds.{fold-Stmt, fold-C
 use Rattle.java_names.specs.declared.scope.Scope.{Scope}
 use Rattle.java_names.specs.Lookups.{is_below}
 use Rattle.java_names.specs.Scope.{declared, left}
-use Rattle.java_names.specs.Types.{declared_type, is_string as is_string_name}
+use Rattle.java_names.specs.Types.{declared_type, exception_type, is_string as is_string_name}
 use Rattle.java_exprs.specs.declared.environment.Environment.{Environment}
 use Rattle.java_denotes.specs.declared.denotation.Denotation.{Denotation}
 use Rattle.java_denotes.specs.declared.denotation.Denotation.TheVariants as denotes
@@ -54,7 +54,7 @@ with_local env t s = declared s t.name.name (local_type env t)
 
 -- the class that a catch clause takes; `Void` where its name is unknown
 abbrev pub caught_type : Environment → Ident → Ty
-caught_type env c = option_map_or ty.Class (class_named env c.name) ty.Void
+caught_type env c = exception_type env.symbols.names c.name
 
 -- the scopes of a `for`: behind its start, behind its updates, and behind its body (JLS 14.14.1)
 abbrev pub started : List Part → Scope → Scope

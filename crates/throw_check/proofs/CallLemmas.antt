@@ -14,7 +14,7 @@ use Rattle.java_denotes.specs.Members.{calling_behind, receiver}
 use Rattle.java_denotes.proofs.CallLemmas.{Means, none_means, some_means}
 use Rattle.throw_check.specs.Points.{maker_throws, node_throws, points_at, points_here, throws}
 
--- ---- a call behind a dot
+-- ---- a call after a dot
 
 -- its method is looked up in a class
 pub found_throws : (symbols : Symbols) (s : Scope) (o : Known) (m : Ident) (xs : List Known) (c : ℕ) → receiver o.denotes ≡ Some c

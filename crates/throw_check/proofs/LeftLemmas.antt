@@ -104,7 +104,7 @@ front_of lists classes = let one_less : length (lists ++ classes ∷ []) - 1 ≡
 pub outside_inside : (h : Handlers) (classes : List ℕ) → outside_try (inside_try h classes) ≡ h
 outside_inside h classes = ap (λ lists. record h { caught = lists }) (front_of h.caught classes)
 
--- ---- what a part behind others answers
+-- ---- what a part after others answers
 
 pub handles_behind : {T : Type 0} (s : Symbols) (h : Handlers) (xs ys : List Point) (r : Result T CheckError)
     → faults_left s h xs ≡ [] → Allows (faults_left s h ys) r → Allows (faults_left s h (xs ++ ys)) r

@@ -1,4 +1,4 @@
--- Scopes that statements leave behind, and the way back to where a block began.
+-- Scopes after statements, and the way back to where a block began.
 use Rattle.std.proofs.Common.{◌≡◌, ◌∙◌, ℕ, ◌<◌, ◌-◌, Bool, true, false, List, [], ◌∷◌, ◌++◌, length, take, refl, ap, arith, append_assoc, append-nil}
 use Rattle.std.specs.Prelude.{is_some, if◌then◌else◌}
 use Rattle.std.proofs.lemmas.Grind.{common_steps}

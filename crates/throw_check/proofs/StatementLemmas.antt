@@ -90,7 +90,7 @@ pub points_clause : (symbols : Symbols) (c : CatchTree) (s : Scope) → clause s
 unfolding points clause
 points_clause symbols c s = ap (λ part. part s) (ap (para-CatchTree Part Part (points_of symbols) (clause_points symbols)) (sym (roll-out-CatchTree c)) ∙ para-roll-CatchTree Part Part (points_of symbols) (clause_points symbols) (out-CatchTree c))
 
--- ---- the scope behind each kind of statement
+-- ---- the scope after each kind of statement
 
 pub behind_empty : (symbols : Symbols) (s : Scope) → behind symbols tree.Empty s ≡ s
 behind_empty symbols s = rw (tree.outs-Empty) refl

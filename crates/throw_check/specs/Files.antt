@@ -33,7 +33,7 @@ use Rattle.throw_check.specs.Statements.{with_local, optional_points, body_point
 abbrev pub unhandled : Symbols → List (List ℕ) → List Point → List Point
 unhandled symbols lists points = filter (λ p. is_checked symbols p.class && not (is_declared symbols lists p.class)) points
 
--- the classes behind `throws`
+-- the classes after `throws`
 abbrev pub declared_classes : Symbols → List Ident → List ℕ
 declared_classes symbols throws = filter_map (λ x. class_number symbols x.name) throws
 
@@ -62,7 +62,7 @@ method_points symbols c m = body_points symbols m.body (with_params symbols m.pa
 abbrev pub parent_maker : Symbols → ℕ → ℕ → Option MakerSymbol
 parent_maker symbols c arity = option_and_then (λ p. maker_of symbols p arity) (parent_of symbols c)
 
--- the call of the superclass's constructor with so many parameters, at this place
+-- the call of the superclass's constructor with that many parameters, at this place
 abbrev pub parent_points : Symbols → ℕ → ℕ → ℕ → List Point
 parent_points symbols c arity at = points_at at (maker_throws (parent_maker symbols c arity))
 

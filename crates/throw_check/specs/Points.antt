@@ -27,7 +27,7 @@ pub record Point : Type 0 where
 abbrev pub points_at : ℕ → List ℕ → List Point
 points_at at classes = map (λ c. record { class = c; at = at }) classes
 
--- the classes that a method declares behind `throws`; none where there is no method
+-- the classes that a method declares after `throws`; none where there is no method
 abbrev pub throws : Option MethodSymbol → List ℕ
 throws method = option_map_or (λ m. m.throws) method []
 

@@ -30,7 +30,7 @@ abbrev pub behind_node : Symbols → Stmt-F Stmt CatchTree → Scope → Scope
 behind_node symbols (Stmt-F.Local t) s = with_local s t.name (declared_type symbols.names t.ty)
 behind_node symbols _ s = s
 
--- the scope behind a statement of a block: that of a declaration has its local
+-- the scope after a statement of a block: that of a declaration has its local
 abbrev pub behind : Symbols → Stmt → Scope → Scope
 behind symbols k s = behind_node symbols (out-Stmt k) s
 
@@ -44,7 +44,7 @@ behind_all symbols (k ∷ ks) s = behind_all symbols ks (behind symbols k s)
 abbrev pub Part : Type 0
 Part = Scope → List Point
 
--- statements in order, each in the scope behind those before it
+-- statements in order, each in the scope after those before it
 unfoldable pub in_order : Symbols → List (Stmt × Part) → Scope → List Point
 in_order symbols [] s = []
 in_order symbols (k ∷ ks) s = k.1 s ++ in_order symbols ks (behind symbols k.0 s)
@@ -72,7 +72,7 @@ uncaught symbols classes points = filter (λ p. not (is_covered symbols classes 
 
 -- ---- all kinds of statements
 
--- the points of a `for` behind its start
+-- the points of a `for` after its start
 abbrev pub turn_points : Symbols → Option Expr → List (Stmt × Part) → Stmt × Part → Part
 turn_points symbols c update body s = optional_points symbols s c ++ (in_order symbols update s ++ body.1 s)
 

@@ -31,7 +31,7 @@ faults_left s h points = broken_at_points (filter (λ p. is_broken s h p.class) 
 abbrev pub inside_try : Handlers → List ℕ → Handlers
 inside_try h classes = record h { caught = h.caught ++ classes ∷ [] }
 
--- the same behind it
+-- the same after it
 abbrev pub outside_try : Handlers → Handlers
 outside_try h = record h { caught = take (length h.caught - 1) h.caught }
 

@@ -41,7 +41,7 @@ pub fn method(
     )
 }
 
-// Arguments, the call of the superclass's constructor with them at token `at`, and the statements behind it.
+// Arguments, the call of the superclass's constructor with them at token `at`, and the statements after it.
 #[tactic(auto, using(crate::proofs::LeftLemmas::joins))]
 fn begun(
     alloc: Global,

@@ -20,7 +20,7 @@ use java_syntax::{CheckError, Expr, Ident};
 use java_tokens::Name;
 use std::alloc::Global;
 
-// The classes behind `throws` of a method; none where there is none.
+// The classes after `throws` of a method; none where there is none.
 fn thrown(method: Option<&MethodSymbol>) -> &[u32]
     ensures { result.now ≡ throws (option_copied method.entry) }
 {

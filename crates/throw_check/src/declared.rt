@@ -11,7 +11,7 @@ use java_syntax::{Ident, MakerTree, Member, MethodTree, ParamTree};
 use sqlite_items::Items;
 use std::alloc::{AllocError, Global};
 
-// The known classes behind `throws`.
+// The known classes after `throws`.
 fn declared(
     alloc: Global,
     symbols: &Symbols,

@@ -106,7 +106,7 @@ fn classes(alloc: Global, symbols: &Symbols, list: &[ClassTree]) -> Result<(), C
 }
 
 /// Checks that a file keeps rule 23: each checked exception that a `throw`, a call or a `new` may throw is caught by a `catch`
-/// around it, or declared behind `throws` by the method or constructor that it stands in (JLS 11.2.3). One in the
+/// around it, or declared after `throws` by the method or constructor that it stands in (JLS 11.2.3). One in the
 /// initialiser of an instance field is declared by each constructor of the class. `table` is the table of the file's
 /// classes, and `tree` the file, in which the rules before are kept; both stay as they are.
 ///

@@ -52,7 +52,7 @@ pub fn declare_caught(
     declare(scope, name, ty)
 }
 
-/// Where a block begins, to come back to behind it.
+/// Where a block begins, to come back to after it.
 #[derive(Clone, Copy, Drop)]
 pub struct Place {
     /// The locals in scope there.

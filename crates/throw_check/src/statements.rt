@@ -92,7 +92,7 @@ pub fn stmt(
     }
 }
 
-/// Checks that the exceptions of statements are handled, each in the scope behind the one before it.
+/// Checks that the exceptions of statements are handled, each in the scope after the one before it.
 ///
 /// # Errors
 /// As `stmt`, for one of them.

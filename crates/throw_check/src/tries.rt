@@ -86,7 +86,7 @@ fn each_clause(
 }
 
 /// `try { .. } catch (C x) { .. } finally { .. }`: what its clauses catch is handled in its block, and not in the clauses
-/// and behind `finally`.
+/// and after `finally`.
 ///
 /// # Errors
 /// As `stmt`.

@@ -26,7 +26,6 @@ pub fn literal(text: &Text) -> Result<Computed, OutOfMemory>
 /// The texts of two values, one after the other (JLS 15.18.1): ints in decimal, `true` and `false`, `null`, and the
 /// characters of a text. More than 1,048,576 code units are `TooLong`, which is found before memory is asked for; a
 /// reference gives `NoMeaning`. Each character is copied once.
-#[tactic(auto, using(crate::proofs::Joined::joined_text))]
 pub fn concatenated(alloc: Global, a: &Cell<u32>, b: &Cell<u32>) -> Result<Computed, OutOfMemory>
     ensures value { IfOk result (λ it. it ≡ concatenated a.now b.now) }
     ensures memory { IsErr result → (t : List ℕ) × (concatenated a.now b.now ≡ computed.Gives (value.Text t)) }

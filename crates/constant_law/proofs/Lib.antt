@@ -1,0 +1,5 @@
+mod Steps
+mod Values
+mod Operators
+mod Names
+mod Nodes

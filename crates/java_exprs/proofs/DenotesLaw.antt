@@ -5,7 +5,7 @@ use Rattle.std.specs.Prelude.{◌==◌, not, option_and_then, option_map, if◌t
 use Rattle.std.specs.Option.{option_map_or}
 use Rattle.core_tree.specs.Types.{class_of}
 use Rattle.core_tree.specs.declared.expr.Expr.TheVariants as core
-use Rattle.java_syntax.specs.declared.name.Ident.{Ident}
+use Rattle.token_reading.specs.declared.name.Ident.{Ident}
 use Rattle.java_syntax.specs.declared.expression.Expr.{Expr}
 use Rattle.java_syntax.specs.declared.expression.Expr.TheOpen.{Expr-F}
 use Rattle.java_syntax.specs.declared.expression.Expr.TheViews.{roll-Expr}

@@ -7,8 +7,7 @@ use crate::mods::is_static;
 use crate::scope::Scope;
 use crate::symbol::Symbols;
 use crate::types::answer_type;
-use class_table::Shared;
-use core_tree::Ty;
+use core_tree::{Shared, Ty};
 use java_syntax::MethodTree;
 use std::alloc::{AllocError, Global};
 

@@ -26,7 +26,6 @@ mod symbol;
 mod types;
 
 pub use beginning::{MakerBody, beginning_of};
-pub use built_in::FIRST_CLASS;
 pub use classes::symbols;
 pub use first_scopes::{constant_scope, maker_scope, method_scope};
 pub use lookups::is_accessible;

@@ -22,7 +22,7 @@ use Rattle.java_types.specs.Declarations.{answer_10, params_10, with_param, meth
 use Rattle.java_names.specs.Scope.{method_scope, maker_scope}
 use Rattle.java_types.specs.Constants.{read_classes, with_constants}
 use Rattle.java_types.specs.Answers.{faults_in, read_in}
-use Rattle.java_names.specs.BuiltIn.{first_class}
+use Rattle.core_tree.specs.BuiltIn.{first_class}
 use Rattle.java_types.specs.Files.{first_env, env_of, reading_of, of_members, of_made, member_faults, made_faults, declared_faults, body_faults, faults_of, program_in, program_of}
 use Rattle.java_types.proofs.FileLemmas.{refuses_declared, refuses_first_of, refuses_second, then_body}
 

@@ -7,10 +7,11 @@ ghost use Rattle.java_exprs.specs.Constants.{folded_of, literal_of};
 ghost use Rattle.java_types.specs.Answers.{read_in};
 ghost use Rattle.java_types.specs.Constants as spec;
 ghost use Rattle.java_names.specs.Scope.{constant_scope};
-ghost use Rattle.java_names.specs.BuiltIn.{first_class};
+ghost use Rattle.core_tree.specs.BuiltIn.{first_class};
 
-use java_names::{is_static, FIRST_CLASS, following, constant_scope};
+use java_names::{is_static, following, constant_scope};
 use crate::types::declared_type;
+use core_tree::FIRST_CLASS;
 use java_constants::fold;
 use java_exprs::arguments::fit;
 use java_exprs::expression::value;

@@ -5,15 +5,15 @@ ghost use Rattle.java_exprs.specs.Attr.{of_rule};
 ghost use Rattle.java_names.specs.Refusals.{Allows};
 ghost use Rattle.java_exprs.specs.Lookups as names;
 ghost use Rattle.java_types.specs.Declarations as spec;
-ghost use Rattle.java_names.specs.BuiltIn.{first_class};
+ghost use Rattle.core_tree.specs.BuiltIn.{first_class};
 ghost use Rattle.java_types.specs.Files.{of_members};
 ghost use Rattle.java_syntax.specs.declared.class.Member.TheVariants as member;
 
 use crate::modifiers::{check_field_words, check_maker_words, check_method_words};
-use java_names::{is_static, FIRST_CLASS, following, maker_scope, method_scope, type_of};
+use java_names::{is_static, following, maker_scope, method_scope, type_of};
 use crate::parameters::declare_params;
 use crate::types::known_type;
-use core_tree::Ty;
+use core_tree::{FIRST_CLASS, Ty};
 use java_exprs::Environment;
 use java_exprs::fault::fault;
 use java_denotes::forms::{is_boolean, is_int, is_string};

@@ -15,6 +15,7 @@ mod main_method;
 mod members;
 mod methods;
 mod modifiers;
+mod own_fields;
 mod parameters;
 mod slots;
 mod superclass;

@@ -21,7 +21,7 @@ use Rattle.java_names.specs.declared.symbol.Symbols.{Symbols}
 use Rattle.java_names.specs.Lookups.{class_number, maker_of, parent_of}
 use Rattle.java_names.specs.Beginnings.{Begun, beginning}
 use Rattle.java_names.specs.Scope.{method_scope, maker_scope}
-use Rattle.java_names.specs.BuiltIn.{first_class}
+use Rattle.core_tree.specs.BuiltIn.{first_class}
 use Rattle.throw_check.specs.Classes.{is_checked, is_declared}
 use Rattle.throw_check.specs.Points.{Point, points_at, maker_throws, expr_points}
 use Rattle.throw_check.specs.Statements.{with_local, optional_points, body_points}

@@ -1,7 +1,7 @@
 //! Rule 23 of a file (JLS 11.2.3).
 
 ghost use Rattle.std.specs.Prelude.{◌≡◌, [], flat_map};
-ghost use Rattle.java_names.specs.BuiltIn.{first_class};
+ghost use Rattle.core_tree.specs.BuiltIn.{first_class};
 ghost use Rattle.throw_check.specs.Files.{class_faults, faults_from, faults_of, made_faults, member_faults};
 ghost use Rattle.java_names.specs.Refusals.{Allows};
 
@@ -9,7 +9,8 @@ use crate::bodies::{field, made_maker, maker, method};
 use crate::declared::{maker_lists, with_made};
 use crate::handlers::Handlers;
 use class_table::ClassTable;
-use java_names::{FIRST_CLASS, Numbering, Symbols, following, is_static, symbols};
+use core_tree::FIRST_CLASS;
+use java_names::{Numbering, Symbols, following, is_static, symbols};
 use java_syntax::{CheckError, ClassTree, FieldTree, FileTree, Member};
 use std::alloc::Global;
 

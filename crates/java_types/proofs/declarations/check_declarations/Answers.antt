@@ -1,7 +1,7 @@
 use Rattle.std.proofs.Common.{rules}
 use Rattle.java_names.specs.Refusals.{Refuses}
 use Rattle.java_types.specs.Declarations.{declaration_faults}
-use Rattle.java_names.specs.BuiltIn.{first_class}
+use Rattle.core_tree.specs.BuiltIn.{first_class}
 use Rattle.java_types.specs.Files.{of_members}
 use Rattle.java_types.proofs.LoopLemmas.{refuses_class}
 use Rattle.java_types.proofs.declarations.check_declarations.Goals as goal

@@ -1,6 +1,6 @@
 use Rattle.std.proofs.Common.{◌≡◌, drop}
 use Rattle.java_types.specs.Declarations.{declaration_faults}
-use Rattle.java_names.specs.BuiltIn.{first_class}
+use Rattle.core_tree.specs.BuiltIn.{first_class}
 use Rattle.java_types.specs.Files.{of_members}
 use Rattle.java_types.proofs.declarations.check_declarations.Given as goal
 

@@ -1,7 +1,7 @@
 use Rattle.std.proofs.Common.{[], ◌∷◌, sym, rules}
 use Rattle.java_names.specs.Refusals.{Refuses}
 use Rattle.java_types.specs.Bodies.{made_maker}
-use Rattle.java_names.specs.BuiltIn.{first_class}
+use Rattle.core_tree.specs.BuiltIn.{first_class}
 use Rattle.java_types.specs.Files.{made_faults, of_made}
 use Rattle.java_types.proofs.LoopLemmas.{refuses_made}
 use Rattle.java_types.proofs.GatherLemmas.{next_made}

@@ -1,6 +1,6 @@
 use Rattle.std.proofs.Common.{◌≡◌, [], ◌∷◌, ◌++◌, drop}
 use Rattle.java_types.specs.Bodies.{made_maker}
-use Rattle.java_names.specs.BuiltIn.{first_class}
+use Rattle.core_tree.specs.BuiltIn.{first_class}
 use Rattle.java_types.specs.Files.{made_faults, of_made}
 use Rattle.java_types.proofs.members.add_made_makers.Given as goal
 

@@ -2,7 +2,7 @@ use Rattle.std.proofs.Common.{◌≡◌, ◌∙◌, ℕ, ◌+◌, suc, List, [],
 use Rattle.std.proofs.lemmas.Grind.{common_steps}
 use Rattle.java_syntax.specs.declared.class.ClassTree.{ClassTree}
 use Rattle.token_reading.specs.declared.fault.Fault.{Fault}
-use Rattle.java_names.specs.BuiltIn.{first_class}
+use Rattle.core_tree.specs.BuiltIn.{first_class}
 use Rattle.java_names.specs.Refusals.{Refuses}
 use Rattle.java_names.proofs.RefusalLemmas.{refuses_left}
 use Rattle.throw_check.specs.Files.{class_faults, faults_from}

@@ -41,8 +41,8 @@ fn digit(net: &Net, node: Node) -> Result<Bits, AllocError>
     Ok(Bits { nodes, most: 1 })
 }
 
-/// The sum of the numbers whose node is true, with the sum of all bounds. For each part it adds at most as many nodes as
-/// the part has digits, and five for each digit of the result.
+/// The sum of the numbers whose node is true, with the sum of all bounds. For each part it adds at most as many nodes
+/// as the part has digits, and five for each digit of the result.
 ///
 /// Answers `AllocError` where memory is refused. Earlier nodes keep their values, also then.
 pub fn sum(net: &mut Net, of: &[(Node, Bits)]) -> Result<Bits, AllocError>

@@ -42,7 +42,7 @@ fn parent(
     }
 }
 
-/// Sees that a constructor has the name of its class.
+/// Checks that a constructor has the name of its class.
 fn check_member(name: &Name, member: &Member) -> Result<(), CheckError>
     ensures fault { IfErr result (Blames (OfRule 8 (NamedOtherwise name.now member.now))) }
     ensures clear { OnOk result (Clear (OfRule 8 (NamedOtherwise name.now member.now))) }
@@ -55,7 +55,7 @@ fn check_member(name: &Name, member: &Member) -> Result<(), CheckError>
     Ok(())
 }
 
-/// Sees that the constructors have the name of their class.
+/// Checks that the constructors have the name of their class.
 #[tactic(auto, using(crate::proofs::Faults::loops))]
 fn check_members(name: &Name, members: &[Member]) -> Result<(), CheckError>
     ensures fault { IfErr result (Blames (InSome members.now (λ _ member. OfRule 8 (NamedOtherwise name.now member)))) }

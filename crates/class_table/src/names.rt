@@ -49,7 +49,7 @@ fn built_in_keys(alloc: Global, built: &[Declaration]) -> Result<Keys<Name>, All
     Ok(keys)
 }
 
-/// Sees that no class has the name of a built-in class, `String` or `System`.
+/// Checks that no class has the name of a built-in class, `String` or `System`.
 fn check_reserved(
     built_names: &Keys<Name>,
     library: &Keys<Name>,

@@ -38,7 +38,7 @@ pub struct MethodRow {
     pub names: Items<Name>,
     /// The type of its result; `None` for `void`.
     pub answer: Option<TypeTree>,
-    /// The names behind `throws` in order.
+    /// The names after `throws` in order.
     pub throws: Items<Name>,
     /// The modifiers in order.
     pub mods: Mods,
@@ -51,7 +51,7 @@ pub struct MethodRow {
 pub struct MakerRow {
     /// The types of the parameters in order.
     pub params: Items<TypeTree>,
-    /// The names behind `throws` in order.
+    /// The names after `throws` in order.
     pub throws: Items<Name>,
     /// The modifiers in order.
     pub mods: Mods,
@@ -59,8 +59,8 @@ pub struct MakerRow {
     pub at: u32,
 }
 
-/// The fields of a class, those of its superclasses first. The lists of the superclasses are shared with them. Contracts
-/// see one list.
+/// The fields of a class, those of its superclasses first. The lists of the superclasses are shared with them.
+/// Contracts see one list.
 #[derive(Drop)]
 pub struct Fields {
     parts: Items<Shared<Items<FieldRow>>>,

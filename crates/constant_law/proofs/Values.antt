@@ -56,6 +56,6 @@ joined_same scalar.Null (scalar.Bool b) = refl
 joined_same scalar.Null (scalar.Text t) = refl
 joined_same scalar.Null scalar.Null = refl
 
--- a text that is no longer than a constant's may be is none that is too long for a run
+-- a text that isn't longer than a constant's may be is none that is too long for a run
 pub short_text : (t : List ℕ) → code_units t ≤ constants.most_units → text t ≡ computed.Gives (value.Text t)
 short_text t short = ap (λ b. option_map_or (λ s. computed.Gives (value.Text s)) (if b then Some t else None) computed.TooLong) (le-leb (code_units t) 1_048_576 (omega (arith, short)))

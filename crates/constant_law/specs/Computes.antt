@@ -23,12 +23,13 @@ pub record Computes (p : Program) (e : Expr) (v : Value) : Type 0 where
   pub steps : ℕ
   pub ends : (depth more : ℕ) (w : World) → steps ≤ depth → w.fuel ≡ steps + more → (meaning p depth).expr e w ≡ gives (outcome.Value v) (record w { fuel = more })
 
--- a text is no longer than a constant's may be
+-- a text isn't longer than a constant's may be
 abbrev pub IsShort : Scalar → Type 0
 IsShort (scalar.Text t) = code_units t ≤ most_units
 IsShort _ = Unit {0}
 
--- a field that is found and is a constant with this value is no field of objects, and the value is no text that is too long
+-- a field that is found and is a constant with this value is no field of objects, and the value is no text that is too
+-- long
 pub record IsConstant (m : FieldSymbol) (v : Scalar) : Type 0 where
   pub place : m.place ≡ None
   pub short : IsShort v

@@ -9,9 +9,9 @@ use crate::operators::{binary, conditional, paren, unary};
 use crate::texts::text;
 use java_exprs::literals::{GREATEST, int_of};
 use java_exprs::{Environment, Folded};
-use primitive_operators::Scalar;
 use java_names::{FieldSymbol, Meaning, Scope};
 use java_syntax::{Expr, Ident};
+use primitive_operators::Scalar;
 use std::alloc::{AllocError, Global};
 
 // A number.
@@ -69,12 +69,12 @@ fn field(env: &Environment, o: &Folded, f: &Ident) -> Result<Folded, AllocError>
     }
 }
 
-/// What an expression is as the initialiser of a constant, or as a part of one (JLS 15.29): its value, or why it has none.
-/// The names in it are those of `scope`, and its constants those that `env` has so far. Calls, casts and whatever else no
-/// initialiser has are not walked.
+/// What an expression is as the initialiser of a constant, or as a part of one (JLS 15.29): its value, or why it has
+/// none. The names in it are those of `scope`, and its constants those that `env` has so far. Calls, casts and whatever
+/// else no initialiser has are not walked.
 ///
 /// # Errors
-/// `AllocError` where there is no memory left, and for a literal of 2^31 characters or more.
+/// `AllocError` where memory runs out, and for a literal of 2^31 characters or more.
 #[tactic(auto, using(crate::proofs::FoldedLemmas::folds))]
 pub fn fold(alloc: Global, env: &Environment, scope: &Scope, e: &Expr) -> Result<Folded, AllocError>
     ensures { IfOk result (λ it. it ≡ constants.folded_of env.now scope.now e.now) }

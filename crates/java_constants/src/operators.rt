@@ -5,8 +5,8 @@ ghost use Rattle.java_exprs.specs.Operators as operators;
 
 use crate::values::{binary_value, unary_value};
 use java_exprs::Folded;
-use primitive_operators::Scalar;
 use java_syntax::{BinaryOp, UnaryOp};
+use primitive_operators::Scalar;
 use std::alloc::{AllocError, Global};
 
 // Whether an initialiser may have this part.
@@ -71,11 +71,11 @@ fn strict(alloc: Global, op: BinaryOp, l: &Folded, r: &Folded) -> Result<Folded,
     }
 }
 
-/// An operator between two parts (JLS 15.17 to 15.24). A second operand that isn't evaluated must be a part of the allowed
-/// kinds, too.
+/// An operator between two parts (JLS 15.17 to 15.24). A second operand that isn't evaluated must be a part of the
+/// allowed kinds, too.
 ///
 /// # Errors
-/// `AllocError` where there is no memory left.
+/// `AllocError` where memory runs out.
 pub fn binary(alloc: Global, op: BinaryOp, l: Folded, r: Folded) -> Result<Folded, AllocError>
     ensures { IfOk result (λ f. f ≡ operators.of_parts (l ∷ r ∷ []) (operators.binary_folded op l r)) }
 {

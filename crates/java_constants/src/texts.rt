@@ -28,8 +28,8 @@ pub fn text(alloc: Global, characters: &[char]) -> Result<Folded, AllocError>
     Ok(Folded::Gives(Scalar::Text(text)))
 }
 
-/// The texts of two values, one after the other (JLS 15.18.1); more code units than a constant may have fail before a text
-/// is made.
+/// The texts of two values, one after the other (JLS 15.18.1); more code units than a constant may have fail before a
+/// text is made.
 ///
 /// # Errors
 /// `AllocError` where memory runs out.

@@ -1,5 +1,5 @@
--- What an expression denotes (JLS 6.5, 15). The table says nothing of faults: it is silent only where a name that decides
--- is unknown.
+-- What an expression denotes (JLS 6.5, 15). The table says nothing of faults: it is silent only where a name that
+-- decides is unknown.
 use Rattle.std.specs.Prelude.{ℕ, Bool, false, ◌||◌, ◌&&◌, ◌==◌, not, List, length, Option, Some, None, option_map, option_and_then, is_some, if◌then◌else◌}
 use Rattle.std.specs.Option.{option_map_or}
 use Rattle.core_tree.specs.declared.ty.Ty.{Ty}

@@ -26,7 +26,8 @@ value_type _ = None
 abbrev pub object_class : Option Denotation → Option ℕ
 object_class d = option_and_then class_of (value_type d)
 
--- how the parts X of a node are seen: what they denote, and as which object O what stands before a dot is kept, and `this`
+-- how the parts X of a node are seen: what they denote, and as which object O what stands before a dot is kept, and
+-- `this`
 pub record Seen (X O : Type 0) : Type 0 where
   pub denotes : X → Option Denotation
   pub object : X → O
@@ -46,7 +47,7 @@ abbrev pub naming_behind : {X O : Type 0} → Seen X O → X → Ident → Optio
 naming_behind as_seen o f (Some (denotes.Class c)) = Some (record { through = through.Class; class = c; object = as_seen.this; name = f })
 naming_behind as_seen o f d = option_map (λ c. record { through = through.Object; class = c; object = as_seen.object o; name = f }) (object_class d)
 
--- a name that is no local is looked up in the class
+-- a name that isn't a local is looked up in the class
 abbrev pub where_no_local : {O : Type 0} → Scope → Ident → Naming O → Option (Naming O)
 where_no_local s x k = if is_some (local_of s x.name) then None else Some k
 

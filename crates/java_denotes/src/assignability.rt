@@ -20,9 +20,9 @@ fn is_above(symbols: &Symbols, class: u32, to: &Ty) -> bool
     }
 }
 
-/// Whether a value of the first type may be assigned to a variable of the second (JLS 5.2): a type to itself, a class to
-/// its superclasses, null to String, classes and arrays, an array to Object and to an array whose elements it fits. It takes
-/// time in proportion to the pairs of brackets, and for classes to the depth of inheritance.
+/// Whether a value of the first type may be assigned to a variable of the second (JLS 5.2): a type to itself, a class
+/// to its superclasses, null to String, classes and arrays, an array to Object and to an array whose elements it fits.
+/// It takes time in proportion to the pairs of brackets, and for classes to the depth of inheritance.
 #[tactic(auto, using(crate::proofs::TypeLemmas::assignable))]
 pub fn is_assignable(symbols: &Symbols, from: &Ty, to: &Ty) -> bool
     ensures { result ≡ spec.is_assignable symbols.now from.now to.now }

@@ -19,8 +19,8 @@ use java_syntax::{Expr, Ident};
 use java_tokens::Name;
 use std::alloc::{AllocError, Global};
 
-/// The method of that name and number of parameters in class number `class`, its own or an inherited one; `None` where there
-/// is none (JLS 15.12.2). `AllocError` where there is no memory left.
+/// The method of that name and number of parameters in class number `class`, its own or an inherited one; `None` where
+/// there is none (JLS 15.12.2). `AllocError` where memory runs out.
 pub fn method_named<'a>(
     symbols: &'a Symbols,
     class: u32,
@@ -46,7 +46,7 @@ pub fn maker_named<'a>(symbols: &'a Symbols, name: &Name, arity: usize) -> Optio
     }
 }
 
-/// What a call of a method with a result of this type gives. `AllocError` where there is no memory left.
+/// What a call of a method with a result of this type gives. `AllocError` where memory runs out.
 pub fn answer(alloc: Global, ty: &Ty) -> Result<Denotation, AllocError>
     ensures { IfOk result (λ d. d ≡ names.answer_denotes ty.now) }
 {
@@ -56,7 +56,7 @@ pub fn answer(alloc: Global, ty: &Ty) -> Result<Denotation, AllocError>
     Ok(Denotation::Value(copy(alloc, ty)?))
 }
 
-/// What a call of a method gives, where there is one. `AllocError` where there is no memory left.
+/// What a call of a method gives, where there is one. `AllocError` where memory runs out.
 pub fn gives(alloc: Global, method: Option<&MethodSymbol>) -> Result<Option<Denotation>, AllocError>
     ensures { IfOk result (λ d. d ≡ spec.gives (option_copied method.entry)) }
 {
@@ -66,8 +66,8 @@ pub fn gives(alloc: Global, method: Option<&MethodSymbol>) -> Result<Option<Deno
     }
 }
 
-/// The class in which a method is looked up that stands after this and a dot: a class, or the class of an object. `None`
-/// where the library's are meant.
+/// The class in which a method is looked up that stands after this and a dot: a class, or the class of an object.
+/// `None` where the library's are meant.
 pub fn receiver(o: &Known) -> Option<u32>
     ensures { result ≡ members.receiver o.now.denotes }
 {

@@ -12,7 +12,7 @@ use java_syntax::{BinaryOp, Expr, Ident};
 use std::alloc::{AllocError, Global};
 
 /// The number of the first token of an expression in a scope, and what it denotes: nothing is known where a name that
-/// decides is unknown. Of the parts it reads those alone that decide, once each. `AllocError` where there is no memory left.
+/// decides is unknown. Of the parts it reads those alone that decide, once each. `AllocError` where memory runs out.
 #[cycle(expressions)]
 #[tactic(auto, using(crate::proofs::KnownLemmas::nodes))]
 pub fn known_of(

@@ -50,7 +50,7 @@ impl Known {
     }
 }
 
-/// The same type once more. `AllocError` where there is no memory left.
+/// The same type once more. `AllocError` where memory runs out.
 pub fn copy(alloc: Global, ty: &Ty) -> Result<Ty, AllocError>
     ensures { IfOk result (λ copy. copy ≡ ty.now) }
 {

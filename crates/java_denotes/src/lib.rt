@@ -1,10 +1,10 @@
-//! What names, fields, calls and whole expressions denote, by symbols and scope alone: no rule is checked, and nothing is
-//! resolved.
+//! What names, fields, calls and whole expressions denote, by symbols and scope alone: no rule is checked, and nothing
+//! is resolved.
 //!
-//! Read `specs/Library`, `specs/Types` (which values fit which types), `specs/Lookups`, `specs/Members` (through what a field or
-//! a method is named), `specs/Denotes`, whose `denotes_at` says what each kind of node denotes, and `specs/Known` (whole
-//! expressions); then `denotation`, `through`, `known`, `forms`, `assignability`, `library`, `names`, `calls`, `types` and
-//! `expression`.
+//! Read `specs/Library`, `specs/Types` (which values fit which types), `specs/Lookups`, `specs/Members` (through what a
+//! field or a method is named), `specs/Denotes`, whose `denotes_at` says what each kind of node denotes, and
+//! `specs/Known` (whole expressions); then `denotation`, `through`, `known`, `forms`, `assignability`, `library`,
+//! `names`, `calls`, `types` and `expression`.
 #![tactic(auto)]
 
 pub mod assignability;

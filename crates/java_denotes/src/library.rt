@@ -55,7 +55,7 @@ pub fn is_length(name: &Name) -> bool
     name.characters() == ['l', 'e', 'n', 'g', 't', 'h'].as_slice()
 }
 
-/// What a name after a value denotes that is no object of a class: the length of an array.
+/// What a name after a value denotes that isn't an object of a class: the length of an array.
 pub fn array_field(name: &Name, ty: &Ty) -> Option<Denotation>
     ensures { result ≡ spec.library_field name.now (Some (Denotation.Value ty.now)) }
 {
@@ -66,7 +66,7 @@ pub fn array_field(name: &Name, ty: &Ty) -> Option<Denotation>
     }
 }
 
-/// What a name after a dot denotes where it is no field of a class: `System.out`, or the length of an array.
+/// What a name after a dot denotes where it isn't a field of a class: `System.out`, or the length of an array.
 pub fn library_field(name: &Name, object: &Option<Denotation>) -> Option<Denotation>
     ensures { result ≡ spec.library_field name.now object.now }
 {

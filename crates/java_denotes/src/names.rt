@@ -19,8 +19,8 @@ use java_tokens::Name;
 use sqlite_items::at;
 use std::alloc::{AllocError, Global};
 
-/// What a variable of this type denotes: a value of it; `None` for `Void`, the type of a declaration whose type has an unknown
-/// name. `AllocError` where there is no memory left.
+/// What a variable of this type denotes: a value of it; `None` for `Void`, the type of a declaration whose type has an
+/// unknown name. `AllocError` where memory runs out.
 pub fn variable(alloc: Global, ty: &Ty) -> Result<Option<Denotation>, AllocError>
     ensures { IfOk result (λ d. d ≡ names.variable_denotes ty.now) }
 {
@@ -30,8 +30,8 @@ pub fn variable(alloc: Global, ty: &Ty) -> Result<Option<Denotation>, AllocError
     Ok(Some(Denotation::Value(copy(alloc, ty)?)))
 }
 
-/// What the local with this number denotes; `None` where there is none, and where its type has an unknown name. `AllocError`
-/// where there is no memory left.
+/// What the local with this number denotes; `None` where there is none, and where its type has an unknown name.
+/// `AllocError` where memory runs out.
 pub fn local(alloc: Global, scope: &Scope, number: u32) -> Result<Option<Denotation>, AllocError>
     ensures { IfOk result (λ d. d ≡ names.local_denotes scope.now number) }
 {
@@ -72,9 +72,9 @@ fn member_or_class(
     }
 }
 
-/// What a name denotes: a local, else a field or constant of the class or its superclasses, else a class or `System`; `None`
-/// where it is unknown, and where the type of its declaration has an unknown name. `AllocError` where there is no memory
-/// left.
+/// What a name denotes: a local, else a field or constant of the class or its superclasses, else a class or `System`;
+/// `None` where it is unknown, and where the type of its declaration has an unknown name. `AllocError` where there is
+/// no memory left.
 pub fn name(
     alloc: Global,
     symbols: &Symbols,
@@ -143,8 +143,8 @@ fn behind_value(
     }
 }
 
-/// What a name after a dot denotes: a field or constant of a class, `System.out`, or the length of an array; `None` where it
-/// is unknown, and where the type of its declaration has an unknown name. `AllocError` where there is no memory left.
+/// What a name after a dot denotes: a field or constant of a class, `System.out`, or the length of an array; `None`
+/// where it is unknown, and where the type of its declaration has an unknown name. `AllocError` where memory runs out.
 pub fn field(
     alloc: Global,
     symbols: &Symbols,

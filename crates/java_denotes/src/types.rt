@@ -19,8 +19,8 @@ use java_syntax::{BaseType, BinaryOp, CheckError, TypeTree, UnaryOp};
 use sqlite_items::Boxed;
 use std::alloc::{AllocError, Global};
 
-/// A value of the type that is spelled, as a cast gives; `None` where its name is unknown (JLS 15.16). `AllocError` where there
-/// is no memory left, or where the type has more than 255 pairs of brackets.
+/// A value of the type that is spelled, as a cast gives; `None` where its name is unknown (JLS 15.16). `AllocError`
+/// where there is no memory left, or where the type has more than 255 pairs of brackets.
 pub fn spelled(
     alloc: Global,
     symbols: &Symbols,
@@ -34,8 +34,8 @@ pub fn spelled(
     }
 }
 
-/// A new array whose elements have this base and that many pairs of brackets; `None` where the base's name is unknown (JLS
-/// 15.10.1). `AllocError` where there is no memory left, or where there are more than 255 pairs.
+/// A new array whose elements have this base and that many pairs of brackets; `None` where the base's name is unknown
+/// (JLS 15.10.1). `AllocError` where memory runs out, or where there are more than 255 pairs.
 #[tactic(auto, using(crate::proofs::BaseLemmas::no_base))]
 pub fn array(
     alloc: Global,
@@ -75,7 +75,7 @@ fn elements(a: &Known) -> Option<&Ty>
     }
 }
 
-/// An element of an array; `None` where `a` is no array. `AllocError` where there is no memory left.
+/// An element of an array; `None` where `a` is no array. `AllocError` where memory runs out.
 pub fn element(alloc: Global, a: &Known) -> Result<Option<Denotation>, AllocError>
     ensures { IfOk result (λ d. d ≡ spec.value (option_and_then of.elements_of (value_type a.now.denotes))) }
 {
@@ -180,8 +180,8 @@ fn wider(symbols: &Symbols, a: Option<&Ty>, b: Option<&Ty>) -> Option<Side>
     }
 }
 
-/// A conditional with these operands after `?`: a value of the wider type; `None` where neither type can be assigned to the
-/// other (JLS 15.25).
+/// A conditional with these operands after `?`: a value of the wider type; `None` where neither type can be assigned to
+/// the other (JLS 15.25).
 pub fn conditional(symbols: &Symbols, a: Known, b: Known) -> Option<Denotation>
     ensures { result ≡ spec.value (spec.choice_type symbols.now (value_type a.denotes) (value_type b.denotes)) }
 {

@@ -51,7 +51,7 @@ pub refuses_14 : (env : Environment) (s : Scope) (k : Calling) (found : MethodSy
 refuses_14 env s k found e is h =
     refuses_there 10 (calling_10 env k) _ e (refuses_there 11 (calling_11 env k) _ e (refuses_there 12 (calling_12 env k) _ e (refuses_there 13 (calling_13 env s k) _ e (rw is h))))
 
--- a fault of rule 14, behind those of rules 10 to 13
+-- a fault of rule 14, after those of rules 10 to 13
 behind_names : (xs ys zs ws : List ℕ) (test : Bool) (at : ℕ) → test ≡ true
     → Has (of_rule 10 xs (of_rule 11 ys (of_rule 12 zs (of_rule 13 ws (of_rule 14 (only_if test at) []))))) (record { rule = 14; at = at })
 behind_names xs ys zs ws test at is =

@@ -32,7 +32,7 @@ abbrev pub of_attr : Attr → Known
 of_attr a = record { at = a.at; denotes = a.denotes }
 
 module _ (env : Environment) (s : Scope) where
-  -- ---- behind a dot
+  -- ---- after a dot
 
   object_field : (a : Attr) (f : Ident) (c : Option ℕ) (other : Option Denotation)
       → option_map_or (member_denotes env.symbols) (option_map (λ c. record { through = through.Object; class = c; object = a.core; name = f }) c) other

@@ -1,4 +1,4 @@
--- Lemmas on names behind a dot.
+-- Lemmas on names after a dot.
 use Rattle.std.proofs.Common.{◌≡◌, ℕ, true, false, [], ◌++◌, Some, refl, sym, ap, subst, inl}
 use Rattle.std.specs.Prelude.{Result}
 use Rattle.core_tree.specs.declared.ty.Ty.{Ty}

@@ -64,7 +64,7 @@ pub faults_behind : (vs : List Value) (parts : List Attr) → values_faults (of_
 faults_behind [] parts = refl
 faults_behind (v ∷ vs) parts = faults_behind vs parts
 
--- a part of a list, behind parts that break nothing
+-- a part of a list, after parts that break nothing
 pub refuses_among : (all : List Attr) (done : List Value) (a : Attr) (rest : List Attr) (e : CheckError)
     → all ≡ of_values done ++ a ∷ rest → Refuses (value_faults a) e → Refuses (values_faults all) e
 refuses_among all done a rest e is h = rw (is, faults_behind done (a ∷ rest)) (refuses_left (value_faults a) (values_faults rest) e h)

@@ -7,8 +7,8 @@ use Rattle.java_denotes.specs.declared.denotation.Denotation.{Denotation}
 use Rattle.java_denotes.specs.declared.denotation.Denotation.TheVariants as denotes
 use Rattle.java_exprs.specs.declared.typed.Form.{Form}
 
--- what is known of an expression: the number of its first token, what it denotes where its names are known, its form, whether
--- it is the number 2147483648, what it resolves to, and the rules that are broken in it, wherever it stands
+-- what is known of an expression: the number of its first token, what it denotes where its names are known, its form,
+-- whether it is the number 2147483648, what it resolves to, and the rules that are broken in it, wherever it stands
 pub record Attr : Type 0 where
   pub at : ℕ
   pub denotes : Option Denotation

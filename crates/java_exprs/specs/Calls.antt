@@ -56,7 +56,7 @@ abbrev pub equals_11 : Environment → List Attr → List ℕ
 equals_11 env (x ∷ []) = wants_type env ty.Text x
 equals_11 env xs = []
 
--- what is broken by a method behind a value that is no object of a class
+-- what is broken by a method after a value that isn't an object of a class
 abbrev pub text_faults : Environment → Attr → Ident → List Attr → List Fault
 text_faults env o m xs = of_rule 10 (method_10 m o.denotes) (of_rule 11 (library_11 env o m xs o.denotes) (of_rule 12 (library_12 m xs o.denotes) []))
 
@@ -66,7 +66,7 @@ text_attr env o m xs = record { at = o.at; denotes = library_method m.name xs o.
 
 -- ---- before the dot
 
--- what a method is called behind; nothing behind `System`
+-- what a method is called after; nothing after `System`
 abbrev pub qualifier_of : Denotation → Option Qualifier
 qualifier_of (denotes.Class c) = Some (qualifier.Class c)
 qualifier_of denotes.Output = Some qualifier.Output

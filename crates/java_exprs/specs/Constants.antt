@@ -1,5 +1,5 @@
--- The values of constants: what an initialiser is, by what its parts are (JLS 15.29). It is made of literals, constants that
--- are declared earlier in the file, and operators, casts and `instanceof` being no such operators.
+-- The values of constants: what an initialiser is, by what its parts are (JLS 15.29). It is made of literals, constants
+-- that are declared earlier in the file, and operators, casts and `instanceof` being no such operators.
 use Rattle.std.specs.Prelude.{pos, nat_le, if◌then◌else◌, ◌==◌, [], ◌∷◌, Option, Some, None, find, option_map}
 use Rattle.pb_int.specs.Int32.{wrap}
 use Rattle.java_syntax.specs.declared.expression.Expr.{Expr}
@@ -38,7 +38,7 @@ name_folded env (Class c) = folded.Class c
 name_folded env (Local n) = folded.Other
 name_folded env Unknown = folded.Other
 
--- a constant behind a class
+-- a constant after a class
 abbrev pub behind_folded : Environment → Folded → Name → Folded
 behind_folded env (folded.Class c) x = found_folded env (member_of env c x)
 behind_folded env _ x = folded.Other

@@ -84,7 +84,7 @@ class_attr env x = record {
   faults = of_rule 10 (unless (is_some (class_named env x.name) || same_name x.name system_name) x.at) [];
 }
 
--- what is known of a name behind a value that is no object of a class
+-- what is known of a name after a value that isn't an object of a class
 abbrev pub length_attr : Value → Ident → Attr
 length_attr o f = let d = Some (denotes.Value o.ty) in record {
   at = o.at;
@@ -95,7 +95,7 @@ length_attr o f = let d = Some (denotes.Value o.ty) in record {
   faults = of_rule 10 (field_10 f d) (of_rule 11 (prefix_11 (of_value o)) []);
 }
 
--- what is known of a name behind `System`
+-- what is known of a name after `System`
 abbrev pub output_attr : ℕ → Core → Ident → Attr
 output_attr at system f = record {
   at = at;

@@ -23,7 +23,7 @@ gives_bool b = folded.Gives (scalar.Bool b)
 
 -- ---- texts
 
--- a text of a constant has at most so many code units
+-- a text of a constant has at most that many code units
 abbrev pub most_units : ℕ
 most_units = 65_535
 

@@ -1,5 +1,5 @@
--- What an expression resolves to. Where a name is unknown, and where nothing is denoted that has a value or is called, it
--- means nothing.
+-- What an expression resolves to. Where a name is unknown, and where nothing is denoted that has a value or is called,
+-- it means nothing.
 use Rattle.std.specs.Prelude.{ℕ, pos, Bool, ◌||◌, List, [], ◌∷◌, map, length, Option, Some, None, slice_get, unwrap_or, if◌then◌else◌}
 use Rattle.std.specs.Option.{option_map_or}
 use Rattle.pb_int.specs.Int32.{wrap}

@@ -1,5 +1,5 @@
--- Which rules a node of an expression breaks, and where: for each rule the places at which the node breaks it, given what is
--- known of its parts. What a part breaks by where it stands is in `Attr`.
+-- Which rules a node of an expression breaks, and where: for each rule the places at which the node breaks it, given
+-- what is known of its parts. What a part breaks by where it stands is in `Attr`.
 use Rattle.std.specs.Prelude.{ℕ, Bool, true, false, not, ◌||◌, ◌&&◌, ◌==◌, nat_le, List, [], ◌∷◌, ◌++◌, length, Option, Some, None, is_some, is_none, if◌then◌else◌}
 use Rattle.std.specs.Option.{option_map_or}
 use Rattle.core_tree.specs.declared.ty.Ty.{Ty}
@@ -71,7 +71,7 @@ is_on_object through.Super = true
 is_on_object through.Object = true
 is_on_object _ = false
 
--- a name alone, or one behind a class, has no object but `this`
+-- a name alone, or one after a class, has no object but `this`
 abbrev pub needs_this : Through → Bool
 needs_this through.This = true
 needs_this through.Class = true
@@ -119,11 +119,11 @@ rule_10 env s _ = []
 
 -- ---- 11: a type doesn't fit
 
--- an instance field behind a class
+-- an instance field named through a class
 abbrev pub naming_11 : Environment → Naming → List ℕ
 naming_11 env k = only_if (is_behind_class k.through && option_map_or (λ m. is_some m.place) (named_member env.symbols k) false) k.name.at
 
--- an instance method behind a class, or a static one on an object
+-- an instance method after a class, or a static one on an object
 abbrev pub is_misplaced : Through → MethodSymbol → Bool
 is_misplaced through m = (is_behind_class through && not m.is_static) || (is_on_object through && m.is_static)
 
@@ -150,7 +150,7 @@ unary_11 _ e = wants is_int e
 abbrev pub both_11 : (Ty → Bool) → Attr → Attr → List ℕ
 both_11 test l r = wants test l ++ wants test r
 
--- an int or a boolean, and the same behind it
+-- an int or a boolean, and the same after it
 abbrev pub is_bitwise : Ty → Bool
 is_bitwise t = is_int t || is_boolean t
 

@@ -19,7 +19,7 @@ use java_denotes::calls::method_named;
 use java_names::{MethodSymbol, Scope, is_accessible};
 use java_syntax::{CheckError, Ident};
 
-// Whether a method behind a class or an object is of the other kind: on an object behind a class, static on an object.
+// Whether a method after a class or an object is of the other kind: on an object after a class, static on an object.
 fn is_misplaced(through: Through, found: &MethodSymbol) -> bool
     ensures { result ≡ rule.is_misplaced through found.now }
 {
@@ -37,7 +37,7 @@ fn needs_this(through: Through) -> bool
     matches!(through, Through::This | Through::Class)
 }
 
-// The method of that name that takes so many arguments.
+// The method of that name that takes that many arguments.
 #[tactic(auto, using(crate::proofs::RulesLemmas::length_values))]
 fn find<'a>(
     env: &'a Environment,
@@ -113,10 +113,10 @@ fn check_this(
 /// inherited one.
 ///
 /// # Errors
-/// `Fault` at the name, or at an argument: of rule 10 where the class has no method of that name, of rule 12 where it has
-/// none with so many parameters, of rule 11 where the method is static on an object, isn't static behind a class, or an
-/// argument doesn't fit, of rule 13 where it is private to another class, and of rule 14 where it needs a `this` that isn't
-/// there. `OutOfMemory` where there is no memory left.
+/// `Fault` at the name, or at an argument: of rule 10 where the class has no method of that name, of rule 12 where it
+/// has none with that many parameters, of rule 11 where the method is static on an object, isn't static but called
+/// through a class, or an argument doesn't fit, of rule 13 where it is private to another class, and of rule 14 where
+/// it needs a `this` that isn't there. `OutOfMemory` where memory runs out.
 pub fn callee<'a>(
     env: &'a Environment,
     scope: &Scope,

@@ -53,7 +53,7 @@ fn called(
 /// `m(..)`, a method of the class that the call stands in.
 ///
 /// # Errors
-/// `Fault` of rules 10 to 14, at the method's name or at an argument. `OutOfMemory` where there is no memory left.
+/// `Fault` of rules 10 to 14, at the method's name or at an argument. `OutOfMemory` where memory runs out.
 #[tactic(auto, using(crate::proofs::CallLemmas::call_checks))]
 pub fn call(
     alloc: Global,
@@ -75,8 +75,8 @@ pub fn call(
 /// `super.m(..)`, where `at` is the place of `super`.
 ///
 /// # Errors
-/// `Fault` of rule 14 at `super` where there is no `this`, and of rules 10 to 13 at the method's name or at an argument.
-/// `OutOfMemory` where there is no memory left.
+/// `Fault` of rule 14 at `super` where there is no `this`, and of rules 10 to 13 at the method's name or at an
+/// argument. `OutOfMemory` where memory runs out.
 #[tactic(auto, using(crate::proofs::CallLemmas::super_checks, crate::proofs::CallLemmas::super_in_static))]
 pub fn super_call(
     alloc: Global,
@@ -103,7 +103,7 @@ pub fn super_call(
     called(alloc, env, scope, receiver, Expr::This, m, arguments)
 }
 
-// A call behind a class, whose name is at token `at`.
+// A call after a class, whose name is at token `at`.
 fn behind_class(
     alloc: Global,
     env: &Environment,
@@ -123,7 +123,7 @@ fn behind_class(
     called(alloc, env, scope, receiver, Expr::This, m, arguments)
 }
 
-// A call behind a value.
+// A call after a value.
 #[tactic(auto, using(crate::proofs::CallLemmas::object_checks, crate::proofs::CallLemmas::text_checks))]
 fn behind_value(
     alloc: Global,
@@ -148,7 +148,7 @@ fn behind_value(
     }
 }
 
-// A call behind a value, or behind a call without a result.
+// A call after a value, or after a call without a result.
 #[tactic(auto, using(crate::proofs::CallLemmas::value_checks, crate::proofs::CallLemmas::value_refused))]
 fn behind_part(
     alloc: Global,
@@ -168,8 +168,8 @@ fn behind_part(
 /// `o.m(..)`: a method of a class, of an object or of a String, or a print.
 ///
 /// # Errors
-/// `Fault` of rule 11 where `o` is a call without a result, and of rule 19 where it is the number 2147483648, at its first
-/// token; of rules 10 to 14 at the method's name or at an argument. `OutOfMemory` where there is no memory left.
+/// `Fault` of rule 11 where `o` is a call without a result, and of rule 19 where it is the number 2147483648, at its
+/// first token; of rules 10 to 14 at the method's name or at an argument. `OutOfMemory` where memory runs out.
 pub fn method(
     alloc: Global,
     env: &Environment,

@@ -25,7 +25,7 @@ use std::alloc::{AllocError, Global};
 /// The type that is spelled.
 ///
 /// # Errors
-/// `Fault` of rule 10 at its name, where that is unknown. `OutOfMemory` where there is no memory left.
+/// `Fault` of rule 10 at its name, where that is unknown. `OutOfMemory` where memory runs out.
 #[tactic(auto, using(crate::proofs::RulesLemmas::one_place))]
 pub fn named_type(alloc: Global, env: &Environment, tree: &TypeTree) -> Result<Ty, CheckError>
     ensures found { IfOk result (λ t. names.type_named env.now tree.now ≡ Some t) }

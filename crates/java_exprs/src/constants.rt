@@ -1,10 +1,10 @@
-use primitive_operators::Scalar;
 use indexmap::IndexMap;
+use primitive_operators::Scalar;
 use std::alloc::{AllocError, Global};
 use std::marker::Model;
 
-/// The constants that were read so far, by the tokens of their names, with their values; one that breaks a rule has none.
-/// Contracts see a list of pairs.
+/// The constants that were read so far, by the tokens of their names, with their values; one that breaks a rule has
+/// none. Contracts see a list of pairs.
 #[derive(Drop)]
 pub struct Constants {
     values: IndexMap<u32, Option<Scalar>>,
@@ -32,7 +32,7 @@ impl Constants {
         }
     }
 
-    /// Adds the constant whose name is token number `at`. `AllocError` where there is no memory left, or where a constant with
+    /// Adds the constant whose name is token number `at`. `AllocError` where memory runs out, or where a constant with
     /// that token was read already, which no file has.
     #[tactic(auto, using(crate::proofs::ConstantLemmas::new_constant))]
     pub fn push(&mut self, at: u32, value: Option<Scalar>) -> Result<(), AllocError>
@@ -45,7 +45,8 @@ impl Constants {
         Ok(())
     }
 
-    /// The constant whose name is this token, with its value; `None` where no such constant was read. It takes no memory.
+    /// The constant whose name is this token, with its value; `None` where no such constant was read. It takes no
+    /// memory.
     #[tactic(auto, using(crate::proofs::ConstantLemmas::lookups))]
     pub fn get(&self, at: u32) -> Option<&Option<Scalar>>
         ensures { option_copied result ≡ option_map (λ c. c.1) (find (λ c. c.0 == at) self.now) }

@@ -43,11 +43,11 @@ fn elements_type(
     Ok(arrays(alloc, base, dimensions)?)
 }
 
-/// `new T[e][]..`, with so many empty pairs of brackets.
+/// `new T[e][]..`, with that many empty pairs of brackets.
 ///
 /// # Errors
-/// `Fault` of rule 10 at the name of `T` where that is unknown, and of rule 11 at the first token of `e` where that is no int.
-/// `OutOfMemory` where there is no memory left.
+/// `Fault` of rule 10 at the name of `T` where that is unknown, and of rule 11 at the first token of `e` where that is
+/// no int. `OutOfMemory` where memory runs out.
 #[tactic(auto, using(crate::proofs::RulesLemmas::joins))]
 pub fn new_array(
     alloc: Global,
@@ -89,7 +89,7 @@ fn named_class(env: &Environment, class: &Ident) -> Result<u32, CheckError>
     }
 }
 
-// The constructor of that class with so many parameters. `Fault` of rule 12 where there is none.
+// The constructor of that class with that many parameters. `Fault` of rule 12 where there is none.
 #[tactic(auto, using(crate::proofs::CreationLemmas::made_with))]
 fn maker<'a>(
     env: &'a Environment,
@@ -172,9 +172,9 @@ fn new_core(
 /// `new C(..)`
 ///
 /// # Errors
-/// `Fault` of rule 10 at the name where no class has it, of rule 12 there where the class has no constructor with so many
-/// parameters, of rule 13 there where that is private to another class, and of rule 11 at the first token of an argument that
-/// doesn't fit. `OutOfMemory` where there is no memory left.
+/// `Fault` of rule 10 at the name where no class has it, of rule 12 there where the class has no constructor with that
+/// many parameters, of rule 13 there where that is private to another class, and of rule 11 at the first token of an
+/// argument that doesn't fit. `OutOfMemory` where memory runs out.
 #[tactic(auto, using(crate::proofs::RulesLemmas::joins, crate::proofs::RulesLemmas::no_faults))]
 pub fn new_object(
     alloc: Global,

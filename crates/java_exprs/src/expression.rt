@@ -19,7 +19,7 @@ use std::alloc::Global;
 /// What is known of an expression, and what it resolves to.
 ///
 /// # Errors
-/// `Fault` of a rule that is broken in the expression. `OutOfMemory` where there is no memory left.
+/// `Fault` of a rule that is broken in the expression. `OutOfMemory` where memory runs out.
 #[cycle(expressions)]
 #[tactic(auto, using(crate::proofs::AttrLemmas::attrs, crate::proofs::AttrLemmas::below))]
 pub fn expr(alloc: Global, env: &Environment, scope: &Scope, e: &Expr) -> Result<Typed, CheckError>

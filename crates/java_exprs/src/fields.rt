@@ -1,4 +1,4 @@
-//! Names behind a dot (JLS 6.5.6.2, 10.7, 15.11).
+//! Names after a dot (JLS 6.5.6.2, 10.7, 15.11).
 
 ghost use Rattle.std.specs.Prelude.{◌≡◌, [], Some, IfOk, IfErr};
 ghost use Rattle.core_tree.specs.declared.expr.Expr.TheVariants as core;
@@ -44,7 +44,7 @@ fn find<'a>(
     }
 }
 
-// A field or constant behind a class or an object of one.
+// A field or constant after a class or an object of one.
 fn member_behind(
     alloc: Global,
     env: &Environment,
@@ -59,7 +59,7 @@ fn member_behind(
     member(alloc, env, scope, receiver, object, f, field)
 }
 
-// The length of an array; every other name behind a value that is no object of a class is refused.
+// The length of an array; every other name after a value that isn't an object of a class is refused.
 fn array_length(alloc: Global, o: Value, f: &Ident) -> Result<Typed, CheckError>
     ensures { Checks (length_attr o f.now) result }
 {
@@ -79,7 +79,7 @@ fn array_length(alloc: Global, o: Value, f: &Ident) -> Result<Typed, CheckError>
     })
 }
 
-// A name behind a value.
+// A name after a value.
 fn behind_value(
     alloc: Global,
     env: &Environment,
@@ -102,7 +102,7 @@ fn behind_value(
     }
 }
 
-// A name behind `System`, of which only `out` is known. What it resolves to means nothing.
+// A name after `System`, of which only `out` is known. What it resolves to means nothing.
 fn output(alloc: Global, at: u32, system: Expr, f: &Ident) -> Result<Typed, CheckError>
     ensures { Checks (output_attr at system f.now) result }
 {
@@ -118,14 +118,14 @@ fn output(alloc: Global, at: u32, system: Expr, f: &Ident) -> Result<Typed, Chec
     })
 }
 
-/// `o.f`: a field behind an object, a field or constant behind a class, the length of an array, or `System.out`.
+/// `o.f`: a field of an object, a field or constant of a class, the length of an array, or `System.out`.
 ///
 /// # Errors
-/// `Fault` at the name: of rule 10 where it is unknown, of rule 11 where it is an instance field behind a class, of rule 13
-/// where it is private to another class, and of rule 14 where it is an instance field behind a class and there is no `this`.
-/// `Fault` at the first token of `o`: of rule 11 where it is an int, a boolean, null or a call without a result, and of rule 19
-/// where it is the number 2147483648. `OutOfMemory` where there is no memory left, and where the type of the field's
-/// declaration has an unknown name.
+/// `Fault` at the name: of rule 10 where it is unknown, of rule 11 where it is an instance field named through a class,
+/// of rule 13 where it is private to another class, and of rule 14 where it is an instance field named through a class
+/// and there is no `this`. `Fault` at the first token of `o`: of rule 11 where it is an int, a boolean, null or a call
+/// without a result, and of rule 19 where it is the number 2147483648. `OutOfMemory` where memory runs out, and where
+/// the type of the field's declaration has an unknown name.
 pub fn field(
     alloc: Global,
     env: &Environment,

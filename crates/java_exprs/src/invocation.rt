@@ -81,10 +81,11 @@ fn chosen_call(
     Ok(Expr::Chosen(object, selector, cores(alloc, arguments)?, site))
 }
 
-/// The resolved call of a method, on an object where it isn't static. Through `super` and on `this` the object is `this`.
+/// The resolved call of a method, on an object where it isn't static. Through `super` and on `this` the object is
+/// `this`.
 ///
 /// # Errors
-/// `OutOfMemory` where there is no memory left.
+/// `OutOfMemory` where memory runs out.
 pub fn invocation(
     alloc: Global,
     env: &Environment,

@@ -1,8 +1,8 @@
 //! Expressions of a file, checked and resolved: what it resolves to, and which of the rules 10
 //! to 16, 19 and 21 it breaks.
 //!
-//! The one public contract is that of `expression::expr`, `Checks (attr env scope e)`. Read `specs/Attr` (what is known of an
-//! expression), `specs/Denotes`, `specs/Rules` and `specs/Resolved` (each question as a table over one node), and
+//! The one public contract is that of `expression::expr`, `Checks (attr env scope e)`. Read `specs/Attr` (what is known
+//! of an expression), `specs/Denotes`, `specs/Rules` and `specs/Resolved` (each question as a table over one node), and
 //! `specs/Checks`; then `expression`, with a module for each family of nodes: `literals`, `names`, `fields`, `calls`,
 //! `creation`, `operators`, `unary`, `casts`, `simple`.
 #![tactic(auto)]

@@ -66,8 +66,8 @@ fn check_print(m: &Ident, arguments: &[Value]) -> Result<(), CheckError>
 /// `System.out.print(..)` or `System.out.println(..)`, whose first token is `at`.
 ///
 /// # Errors
-/// `Fault` at the method's name of rule 10 where it is no print, and of rule 12 where it takes another number of arguments;
-/// of rule 11 at an argument that is no int, boolean or String.
+/// `Fault` at the method's name of rule 10 where it isn't a print, and of rule 12 where it takes another number of
+/// arguments; of rule 11 at an argument that is no int, boolean or String.
 pub fn print(at: u32, m: &Ident, arguments: Items<Value>) -> Result<Typed, CheckError>
     ensures { Checks (print_attr at m.now (of_values arguments)) result }
 {
@@ -160,12 +160,12 @@ fn text_core(alloc: Global, text: Value, arguments: Items<Value>) -> Result<Expr
     }
 }
 
-/// `o.m(..)` with a value that is no object of a class: `equals` or `length` of a String.
+/// `o.m(..)` with a value that isn't an object of a class: `equals` or `length` of a String.
 ///
 /// # Errors
-/// `Fault` of rule 11 at the value where it is an int, a boolean or `null`; of rule 10 at the method's name where it is an
-/// array, or a String without such a method; of rule 12 at the name where the method takes another number of arguments; of
-/// rule 11 at an argument that is no String. `OutOfMemory` where there is no memory left.
+/// `Fault` of rule 11 at the value where it is an int, a boolean or `null`; of rule 10 at the method's name where it is
+/// an array, or a String without such a method; of rule 12 at the name where the method takes another number of
+/// arguments; of rule 11 at an argument that isn't a String. `OutOfMemory` where memory runs out.
 pub fn text_call(
     alloc: Global,
     env: &Environment,

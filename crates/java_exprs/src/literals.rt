@@ -104,7 +104,7 @@ pub fn text(
     })
 }
 
-/// The text with these characters. `OutOfMemory` where there is no memory left, or too many characters for a text.
+/// The text with these characters. `OutOfMemory` where memory runs out, or too many characters for a text.
 #[tactic(auto, using(crate::proofs::NumberLemmas::code_units_bound))]
 pub fn text_of(alloc: Global, characters: &[char]) -> Result<Text, CheckError>
     ensures text { IfOk result (λ text. text ≡ characters.now) }

@@ -16,7 +16,6 @@ ghost use Rattle.java_exprs.specs.Rules as rule;
 
 use crate::environment::Environment;
 use crate::fault::fault;
-use primitive_operators::Scalar;
 use crate::receiver::Receiver;
 use crate::typed::{Form, Typed};
 use core_tree::{Expr, Ty};
@@ -24,14 +23,15 @@ use java_denotes::names::variable;
 use java_denotes::{Denotation, Through};
 use java_names::{FieldSymbol, Scope, is_accessible};
 use java_syntax::{CheckError, Ident};
+use primitive_operators::Scalar;
 use sqlite_items::Boxed;
 use std::alloc::Global;
 
 /// What is denoted, where that is known.
 ///
 /// # Errors
-/// `OutOfMemory` where nothing is known: then the type of a variable's declaration has an unknown name, which is refused
-/// before the uses of the variable are read.
+/// `OutOfMemory` where nothing is known: then the type of a variable's declaration has an unknown name, which is
+/// refused before the uses of the variable are read.
 pub fn known(denotes: Option<Denotation>) -> Result<Denotation, CheckError>
     ensures value { IfOk result (λ value. denotes ≡ Some value) }
     ensures memory { IfErr result (λ e. e ≡ CheckError.OutOfMemory) }
@@ -50,7 +50,7 @@ fn variable_value(alloc: Global, ty: &Ty) -> Result<Denotation, CheckError>
     known(variable(alloc, ty)?)
 }
 
-// Checks that what stands behind a class is no instance field.
+// Checks that what stands after a class is no instance field.
 fn check_kind(through: Through, x: &Ident, field: &FieldSymbol) -> Result<(), CheckError>
     ensures { Allows (of_rule 11 (only_if (rule.is_behind_class through && is_some field.now.place) x.now.at) []) result }
 {
@@ -155,13 +155,13 @@ fn core_of(
     }
 }
 
-/// A field or a constant that was found in the receiver's class: checked and resolved. `object` is the resolved expression
-/// before the dot; where there is none, it is `this`.
+/// A field or a constant that was found in the receiver's class: checked and resolved. `object` is the resolved
+/// expression before the dot; where there is none, it is `this`.
 ///
 /// # Errors
-/// `Fault` at its name: of rule 11 where it is an instance field behind a class, of rule 13 where it is private to another
-/// class, and of rule 14 where it needs a `this` that isn't there. `OutOfMemory` where there is no memory left, and where the
-/// type of its declaration has an unknown name.
+/// `Fault` at its name: of rule 11 where it is an instance field named through a class, of rule 13 where it is private
+/// to another class, and of rule 14 where it needs a `this` that isn't there. `OutOfMemory` where memory runs out, and
+/// where the type of its declaration has an unknown name.
 pub fn member(
     alloc: Global,
     env: &Environment,

@@ -52,9 +52,9 @@ fn class_or_system(env: &Environment, x: &Ident) -> Result<Typed, CheckError>
 /// A name: of a local, else of a field or constant of the class or its superclasses, else of a class or `System`.
 ///
 /// # Errors
-/// `Fault` at the name: of rule 10 where it is unknown, of rule 13 where it is a field or constant that is private to another
-/// class, and of rule 14 where it is an instance field and there is no `this`. `OutOfMemory` where there is no memory left,
-/// and where the type of a variable's declaration has an unknown name.
+/// `Fault` at the name: of rule 10 where it is unknown, of rule 13 where it is a field or constant that is private to
+/// another class, and of rule 14 where it is an instance field and there is no `this`. `OutOfMemory` where memory runs
+/// out, and where the type of a variable's declaration has an unknown name.
 pub fn name(alloc: Global, env: &Environment, scope: &Scope, x: &Ident) -> Result<Typed, CheckError>
     ensures { Checks (attr_at env.now scope.now (Expr-F.Name x.now)) result }
 {

@@ -14,7 +14,7 @@ use java_denotes::Denotation;
 use java_names::Scope;
 use java_syntax::{CheckError, Ident};
 
-/// What a method is called behind.
+/// What a method is called on.
 #[derive(Clone, Copy, Debug, PartialEq, Eq, Drop)]
 pub enum Qualifier {
     /// The class with this number.
@@ -25,11 +25,11 @@ pub enum Qualifier {
     Value,
 }
 
-/// What the method is called behind, where `o` stands before the dot.
+/// What the method is called on, where `o` stands before the dot.
 ///
 /// # Errors
-/// `Fault` of rule 19 at its first token where it is the number 2147483648, and of rule 10 at the method's name where it is
-/// `System`.
+/// `Fault` of rule 19 at its first token where it is the number 2147483648, and of rule 10 at the method's name where
+/// it is `System`.
 #[tactic(auto, using(crate::proofs::CallLemmas::minus_refused, crate::proofs::CallLemmas::system_refused))]
 pub fn qualifier_of(
     env: &Environment,

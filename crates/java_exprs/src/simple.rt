@@ -80,8 +80,8 @@ fn element_core(alloc: Global, a: Expr, i: Expr) -> Result<Expr, AllocError>
 /// `a[i]`
 ///
 /// # Errors
-/// `Fault` of rule 11 at the first token of `a` where that is no array, and of `i` where that is no int. `OutOfMemory` where
-/// there is no memory left.
+/// `Fault` of rule 11 at the first token of `a` where that isn't an array, and of `i` where that is no int.
+/// `OutOfMemory` where there is no memory left.
 pub fn element(
     alloc: Global,
     env: &Environment,
@@ -136,8 +136,8 @@ fn conditional_core(alloc: Global, c: Expr, a: Expr, b: Expr) -> Result<Expr, Al
 /// `c ? a : b`
 ///
 /// # Errors
-/// `Fault` of rule 11 at the first token of `c` where that is no boolean, and of `b` where neither the type of `a` can be
-/// assigned to that of `b` nor the other way round. `OutOfMemory` where there is no memory left.
+/// `Fault` of rule 11 at the first token of `c` where that isn't a boolean, and of `b` where neither the type of `a`
+/// can be assigned to that of `b` nor the other way round. `OutOfMemory` where memory runs out.
 pub fn conditional(
     alloc: Global,
     env: &Environment,

@@ -20,7 +20,7 @@ pub struct Typed {
     pub at: u32,
     pub denotes: Denotation,
     pub form: Form,
-    /// Whether it is the number 2147483648, which only stands behind a minus (JLS 3.10.1).
+    /// Whether it is the number 2147483648, which only stands after a minus (JLS 3.10.1).
     pub needs_minus: bool,
     /// The resolved expression. Where it denotes no value and isn't called, it means nothing.
     pub core: Expr,

@@ -26,8 +26,8 @@ impl Typed {
     /// The expression as a value.
     ///
     /// # Errors
-    /// `Fault` of rule 10 where it is a class or the library, of rule 11 where it is a call without a result, and of rule 19
-    /// where it is the number 2147483648; each at its first token.
+    /// `Fault` of rule 10 where it is a class or the library, of rule 11 where it is a call without a result, and of
+    /// rule 19 where it is the number 2147483648; each at its first token.
     pub fn value(self) -> Result<Value, CheckError>
         ensures value { IfOk result (λ v. clean self ≡ of_value v) }
         ensures fault { IfErr result (Refuses (value_faults (clean self))) }

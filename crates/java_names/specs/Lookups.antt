@@ -57,8 +57,8 @@ method_in class key = option_and_then (λ n. slice_get class.methods.symbols n) 
 abbrev pub method_at : Symbols → Selector → ℕ → Option MethodSymbol
 method_at s key c = option_and_then (λ class. method_in class key) (class_at s c)
 
--- the method of that name and number of parameters in class c, its own or inherited: the nearest one, which may be static
--- or private
+-- the method of that name and number of parameters in class c, its own or inherited: the nearest one, which may be
+-- static or private
 abbrev pub method_of : Symbols → ℕ → Selector → Option MethodSymbol
 method_of s c key = nearest (method_at s key) (line_of s c)
 

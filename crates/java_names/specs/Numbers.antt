@@ -9,7 +9,7 @@ use Rattle.java_names.specs.BuiltIn.{needs_maker}
 abbrev pub made_for : ℕ → ClassRow → ℕ
 made_for c row = if needs_maker c row.makers then 1 else 0
 
--- the numbers that come next behind class number c, where they are `numbers` before it
+-- the numbers that come next after class number c, where they are `numbers` before it
 abbrev pub numbers_after : ℕ → Numbers → ClassRow → Numbers
 numbers_after c numbers row =
     if is_built_in c then numbers

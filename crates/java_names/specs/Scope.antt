@@ -35,7 +35,7 @@ maker_scope c = first_scope c Bool.false ty.Void
 abbrev pub constant_scope : ℕ → Scope
 constant_scope c = first_scope c Bool.true ty.Void
 
--- the scope behind a declaration: the local gets the next number, and numbers are never used again
+-- the scope after a declaration: the local gets the next number, and numbers are never used again
 unfoldable pub declared : Scope → Name → Ty → Scope
 declared scope name t = record scope { locals = scope.locals ++ (name, length scope.slots) ∷ []; slots = scope.slots ++ t ∷ [] }
 
@@ -43,11 +43,11 @@ declared scope name t = record scope { locals = scope.locals ++ (name, length sc
 abbrev pub mark_of : Scope → Mark
 mark_of scope = record { locals = length scope.locals; in_loop = scope.in_loop }
 
--- the scope behind a block that began at that place: its locals are gone
+-- the scope after a block that began at that place: its locals are gone
 unfoldable pub back_at : Mark → Scope → Scope
 back_at mark scope = record scope { locals = take mark.locals scope.locals; in_loop = mark.in_loop }
 
--- the scope behind a block that began in the scope `outer`
+-- the scope after a block that began in the scope `outer`
 abbrev pub left : Scope → Scope → Scope
 left outer scope = back_at (mark_of outer) scope
 

@@ -8,7 +8,7 @@ use Rattle.core_tree.specs.declared.ty.Ty.{Ty}
 use Rattle.core_tree.specs.declared.ty.Ty.TheVariants as ty
 use Rattle.class_table.specs.Names.{Name, same_name, number_of}
 
--- the type of arrays with so many pairs of brackets
+-- the type of arrays with that many pairs of brackets
 abbrev pub arrays : ℕ → Ty → Ty
 arrays zero t = t
 arrays (suc n) t = ty.Array (arrays n t)

@@ -11,8 +11,8 @@ use core_tree::{Shared, Ty};
 use java_syntax::MethodTree;
 use std::alloc::{AllocError, Global};
 
-/// The scope of the body of a method of class number `class`, before its parameters. `AllocError` where there is no memory
-/// left.
+/// The scope of the body of a method of class number `class`, before its parameters. `AllocError` where there is no
+/// memory left.
 pub fn method_scope(
     alloc: Global,
     symbols: &Symbols,
@@ -26,14 +26,14 @@ pub fn method_scope(
 }
 
 /// The scope of the body of a constructor of class number `class`, before its parameters, and of an instance field's
-/// initialiser. `AllocError` where there is no memory left.
+/// initialiser. `AllocError` where memory runs out.
 pub fn maker_scope(alloc: Global, class: u32) -> Result<Scope, AllocError>
     ensures { IfOk result (λ scope. scope ≡ spec.maker_scope class) }
 {
     Ok(Scope::new(alloc, class, false, Shared::new(alloc, Ty::Void)?))
 }
 
-/// The scope of a constant's initialiser in class number `class`. `AllocError` where there is no memory left.
+/// The scope of a constant's initialiser in class number `class`. `AllocError` where memory runs out.
 pub fn constant_scope(alloc: Global, class: u32) -> Result<Scope, AllocError>
     ensures { IfOk result (λ scope. scope ≡ spec.constant_scope class) }
 {

@@ -3,9 +3,10 @@
 //! `symbols` makes the symbols of a checked class table; look-ups by name stand on `Symbols`, and the locals of a body
 //! on `Scope`. Each look-up has one definition in `specs/`, and its contract says that it gives just that.
 //!
-//! Read `specs/Types`, `specs/Symbols` and `specs/Selectors` (what the symbols of a table are), `specs/Lookups`, `specs/Chosen`
-//! and `specs/Scope` (what a look-up finds), `specs/Beginnings` and `specs/Refusals` (what a check answers); then `symbol`, `numbering`, `types`, `selectors`, `fields`, `methods`, `makers`,
-//! `classes`, `lookups`, `chosen`, `scope`, `first_scopes` and `beginning`.
+//! Read `specs/Types`, `specs/Symbols` and `specs/Selectors` (what the symbols of a table are), `specs/Lookups`,
+//! `specs/Chosen` and `specs/Scope` (what a look-up finds), `specs/Beginnings` and `specs/Refusals` (what a check
+//! answers); then `symbol`, `numbering`, `types`, `selectors`, `fields`, `methods`, `makers`, `classes`, `lookups`,
+//! `chosen`, `scope`, `first_scopes` and `beginning`.
 #![tactic(auto)]
 
 mod beginning;

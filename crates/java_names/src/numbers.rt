@@ -47,8 +47,8 @@ fn made_for(class: u32, row: &ClassRow) -> usize
     }
 }
 
-/// The numbers that come next behind class number `class`, where they are `numbers` before it. `AllocError` where there is
-/// no further number.
+/// The numbers that come next after class number `class`, where they are `numbers` before it. `AllocError` where there
+/// is no further number.
 pub fn numbers_after(class: u32, numbers: Numbers, row: &ClassRow) -> Result<Numbers, AllocError>
     ensures { IfOk result (λ next. next ≡ spec.numbers_after class numbers row.now) }
 {

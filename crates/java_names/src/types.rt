@@ -47,8 +47,8 @@ fn base_type(names: &Numbering<Name>, base: &BaseType) -> Option<Ty>
 /// dropped by recursion, so without a limit the stack would be wanting.
 const MAX_DIMENSIONS: u32 = 255;
 
-/// The type of arrays with so many pairs of brackets behind this type (JLS 10.1). `AllocError` where there is no memory
-/// left, or where there are more than 255.
+/// The type of arrays with that many pairs of brackets after this type (JLS 10.1). `AllocError` where there is no
+/// memory left, or where there are more than 255.
 pub fn arrays(alloc: Global, ty: Ty, dimensions: u32) -> Result<Ty, AllocError>
     ensures { IfOk result (λ t. t ≡ spec.arrays dimensions ty) }
 {
@@ -63,7 +63,7 @@ pub fn arrays(alloc: Global, ty: Ty, dimensions: u32) -> Result<Ty, AllocError>
 }
 
 /// The type that is spelled, where the classes have these names; `None` where its name is unknown (JLS 4.2, 4.3).
-/// `AllocError` where there is no memory left, or where it has more than 255 pairs of brackets.
+/// `AllocError` where memory runs out, or where it has more than 255 pairs of brackets.
 pub fn type_of(
     alloc: Global,
     names: &Numbering<Name>,
@@ -106,7 +106,7 @@ pub fn resolve_base(names: &Numbering<Name>, base: &BaseType) -> Result<Ty, Chec
 /// The type that is spelled, where the classes have these names (JLS 4.2, 4.3).
 ///
 /// # Errors
-/// `Fault` of rule 10 at the name, where that is unknown. `OutOfMemory` where there is no memory left, or where the type has
+/// `Fault` of rule 10 at the name, where that is unknown. `OutOfMemory` where memory runs out, or where the type has
 /// more than 255 pairs of brackets.
 pub fn resolve_type(
     alloc: Global,

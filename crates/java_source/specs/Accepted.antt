@@ -11,7 +11,7 @@ use Rattle.class_table.specs.Faults.{Clear}
 use Rattle.class_table.specs.Rules.{Breaks}
 use Rattle.class_table.specs.Table.{table_of}
 use Rattle.java_names.specs.Refusals.{Has}
-use Rattle.java_types.specs.Files as types
+use Rattle.java_members.specs.Files as types
 use Rattle.throw_check.specs.Files as throws
 
 -- how many bytes a source may have

@@ -117,7 +117,7 @@ RefusesFor bytes (refusal.Syntax line column) = IsMalformed bytes line column
 RefusesFor bytes refusal.TooDeep = IsTooHigh bytes
 RefusesFor bytes (refusal.Fault rule line column) = BreaksRule bytes rule line column
 
--- why a source has no program; nothing is said of want of memory
+-- why a source has no program; nothing is said of memory that runs out
 abbrev pub IsRefused : List ℕ → SourceError → Type 0
 IsRefused bytes (error.Refused why) = RefusesFor bytes why
 IsRefused bytes error.OutOfMemory = Unit {0}

@@ -26,7 +26,7 @@ pub fn place_of(tokens: &[Token], at: u32) -> Place
     }
 }
 
-/// The place of token number `at`, counted from 0, or of the last one where there are no more than so many.
+/// The place of token number `at`, counted from 0, or of the last one where there are no more than that many.
 #[tactic(auto, using(crate::proofs::PlaceLemmas::place_among))]
 pub fn stopped_at(tokens: &[Token], at: u32) -> Place
     requires { 0 < length tokens.now }

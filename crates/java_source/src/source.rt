@@ -5,7 +5,7 @@ ghost use Rattle.core_tree.specs.WellTyped.{IsWellTyped};
 ghost use Rattle.java_syntax.specs.Spells.{Spells};
 ghost use Rattle.class_table.specs.Faults.{Blames};
 ghost use Rattle.class_table.specs.Table.{table_of};
-ghost use Rattle.java_types.specs.Files as types;
+ghost use Rattle.java_members.specs.Files as types;
 ghost use Rattle.java_source.specs.Accepted.{Accepted, BreaksNoRule, IsBroken, IsOnlyProgram};
 ghost use Rattle.java_source.specs.Refused.{IsRefused, TellsNoTree, rule_refusal};
 
@@ -19,7 +19,6 @@ use java_tokens::{Token, tokens};
 use java_types::resolve;
 use std::alloc::Global;
 use throw_check::check;
-use typing_law::programs_are_typed;
 
 /// The bytes of the longest source.
 pub const MOST_BYTES: usize = 1_048_576;
@@ -27,8 +26,8 @@ pub const MOST_BYTES: usize = 1_048_576;
 /// The resolved program of a source: it has no other one, and is well typed.
 ///
 /// # Errors
-/// `Refused` where the source isn't accepted, by the first of these that refuses: its size, tokens, tree, and the checks
-/// of classes, of names and types, and of thrown exceptions. `OutOfMemory` may come for any source.
+/// `Refused` where the source isn't accepted, by the first of these that refuses: its size, tokens, tree, and the
+/// checks of classes, of names and types, and of thrown exceptions. `OutOfMemory` may come for any source.
 pub fn program_of(alloc: Global, bytes: &[u8]) -> Result<Program, SourceError>
     ensures program { IfOk result (Accepted bytes.now) }
     ensures only { IfOk result (IsOnlyProgram bytes.now) }
@@ -60,7 +59,6 @@ fn checked(alloc: Global, tree: &FileTree) -> Result<Program, CheckError>
     let table = table(alloc, tree)?;
     let program = resolve(alloc, &table, tree)?;
     check(alloc, &table, tree)?;
-    programs_are_typed();
     Ok(program)
 }
 

@@ -145,12 +145,12 @@ pub clauses_fault : (all : CatchEffects) (k : CatchPart) (ks : List CatchPart) (
 unfolding clauses
 clauses_fault all k ks s done e is h = rw is (refuses_left (k s).faults _ e h)
 
--- behind the last statement
+-- after the last statement
 pub sequence_end : (done : List Step) (s : Scope) → behind done (sequence [] s) ≡ record { after = s; steps = done; faults = [] }
 unfolding sequence
 sequence_end done s = ap (λ all. record { after = s; steps = all; faults = [] }) (append-nil done)
 
--- behind the last clause
+-- after the last clause
 pub clauses_end : (done : List Handler) (s : Scope) → clauses_behind done (clauses [] s) ≡ record { after = s; handlers = done; faults = [] }
 unfolding clauses
 clauses_end done s = ap (λ all. record { after = s; handlers = all; faults = [] }) (append-nil done)

@@ -16,7 +16,7 @@ has_behind : (xs ys zs : List Fault) (f : Fault) → Has (ys ++ zs) f → Has ((
 has_behind [] ys zs f h = h
 has_behind (x ∷ xs) ys zs f h = inr (has_behind xs ys zs f h)
 
--- of the faults of a part and those behind it, with others between them
+-- of the faults of a part and those after it, with others between them
 pub refuses_around : (xs ys zs : List Fault) (e : CheckError) → Refuses (xs ++ zs) e → Refuses ((xs ++ ys) ++ zs) e
 refuses_around xs ys zs (error.Fault f) h = has_around xs ys zs f h
 refuses_around xs ys zs error.OutOfMemory h = tt

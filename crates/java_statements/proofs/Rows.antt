@@ -97,7 +97,7 @@ unknown_type : stmt_10 env (Stmt-F.Local (local (class_type (codes "C") 6) (iden
 unfolding declared
 unknown_type = refl
 
--- behind its block a local may be declared again
+-- after its block a local may be declared again
 behind_block : stmt_10 env (Stmt-F.Local (local int_type (ident (codes "x") 7))) (left scope with_x) ≡ []
 unfolding declared back_at
 behind_block = refl

@@ -1,5 +1,5 @@
--- What a statement does to the scope, what it resolves to, and which rules it breaks (JLS 14). A statement is read by one
--- table for each question, given what is known of its parts.
+-- What a statement does to the scope, what it resolves to, and which rules it breaks (JLS 14). A statement is read by
+-- one table for each question, given what is known of its parts.
 use Rattle.std.specs.Prelude.{ℕ, Bool, true, false, ◌||◌, ◌&&◌, List, [], ◌∷◌, ◌++◌, map, length, Option, Some, None, option_map, is_some, is_none, unwrap_or, if◌then◌else◌}
 use Rattle.std.specs.Option.{option_map_or}
 use Rattle.core_tree.specs.declared.ty.Ty.{Ty}
@@ -56,7 +56,7 @@ with_local env t s = declared s t.name.name (local_type env t)
 abbrev pub caught_type : Environment → Ident → Ty
 caught_type env c = exception_type env.symbols.names c.name
 
--- the scopes of a `for`: behind its start, behind its updates, and behind its body (JLS 14.14.1)
+-- the scopes of a `for`: after its start, after its updates, and after its body (JLS 14.14.1)
 abbrev pub started : List Part → Scope → Scope
 started start s = (sequence start s).after
 
@@ -156,7 +156,7 @@ abbrev pub stmt_10 : Environment → StmtNode → Scope → List ℕ
 stmt_10 env (Stmt-F.Local t) s = unknown_type env t.ty ++ again_10 s t.name
 stmt_10 env _ s = []
 
--- a class behind `catch` or `throws` is known; String is a type, and is for rule 11
+-- a class after `catch` or `throws` is known; String is a type, and is for rule 11
 abbrev pub exception_10 : Environment → Ident → List ℕ
 exception_10 env c = unless (is_some (class_named env c.name) || is_string_name c.name) c.at
 
@@ -169,7 +169,8 @@ catch_10 env c s = exception_10 env c.class ++ again_10 s c.name
 abbrev pub condition_11 : Environment → Scope → Expr → List ℕ
 condition_11 env s c = wants is_boolean (attr env s c)
 
--- a String takes what concatenation joins, but for instances and arrays, which are for rule 21; other variables take ints
+-- a String takes what concatenation joins, but for instances and arrays, which are for rule 21; other variables take
+-- ints
 abbrev pub sum_11 : Attr → Attr → List ℕ
 sum_11 a e = of_types (λ t u. if is_string t || (is_object t && is_string u) then [] else both_11 is_int a e) a e
 
@@ -202,7 +203,7 @@ stmt_11 env (Stmt-F.Return at e) s = return_11 env at e s
 stmt_11 env (Stmt-F.Throw e) s = wants_type env throwable (attr env s e)
 stmt_11 env _ s = []
 
--- a class behind `catch` or `throws` is Throwable or below it
+-- a class after `catch` or `throws` is Throwable or below it
 abbrev pub exception_11 : Environment → Ident → List ℕ
 exception_11 env c = option_map_or (λ class. unless (is_below env.symbols class 1) c.at) (class_named env c.name) (only_if (is_string_name c.name) c.at)
 
@@ -222,7 +223,7 @@ stmt_17 (Stmt-F.Break at) s = unless s.in_loop at
 stmt_17 (Stmt-F.Continue at) s = unless s.in_loop at
 stmt_17 _ s = []
 
--- ---- 18: an expression statement that is no call and no `new`, or an assignment target that is no local, field or element
+-- ---- 18: an expression statement that is neither a call nor a `new`, or an assignment target that isn't a local, field or element
 
 abbrev pub is_call : Form → Bool
 is_call form.Call = true

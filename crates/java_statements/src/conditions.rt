@@ -19,7 +19,7 @@ use std::alloc::Global;
 /// A condition, resolved.
 ///
 /// # Errors
-/// `Fault` of a rule that is broken in it, of rule 11 where it is no boolean. `OutOfMemory` where there is no memory left.
+/// `Fault` of a rule that is broken in it, of rule 11 where it isn't a boolean. `OutOfMemory` where memory runs out.
 #[tactic(auto, using(java_exprs::proofs::RulesLemmas::joins))]
 pub fn condition(
     alloc: Global,

@@ -33,7 +33,7 @@ struct Entered {
 /// Declares a local of this type, where its name is that of no local in scope, and gives its number.
 ///
 /// # Errors
-/// `Fault` of rule 10 at the name, where a local in scope has it. `OutOfMemory` where there is no memory left.
+/// `Fault` of rule 10 at the name, where a local in scope has it. `OutOfMemory` where memory runs out.
 pub fn declare(scope: &mut Scope, name: &Ident, ty: Shared<Ty>) -> Result<u32, CheckError>
     ensures slot { IfOk result (λ slot. slot ≡ length scope.old.slots) }
     ensures scope { OnOk result (scope.new ≡ declared scope.old name.now.name ty) }
@@ -96,7 +96,7 @@ fn initial(
 /// `T x = e;` or `T x;`. The local is in scope in its own initialiser.
 ///
 /// # Errors
-/// `Fault` of a rule that is broken in it. `OutOfMemory` where there is no memory left.
+/// `Fault` of a rule that is broken in it. `OutOfMemory` where memory runs out.
 #[tactic(auto, using(java_exprs::proofs::RulesLemmas::joins))]
 pub fn local(
     alloc: Global,

@@ -70,7 +70,7 @@ fn clause(
     Ok(Catch { class, slot, body })
 }
 
-// Catch clauses, each in the scope behind the one before it.
+// Catch clauses, each in the scope after the one before it.
 #[cycle(statements)]
 #[tactic(auto, using(crate::proofs::EffectLemmas::clauses_step))]
 fn clauses(
@@ -89,11 +89,11 @@ fn clauses(
     Ok(handlers)
 }
 
-/// `try { .. } catch (C x) { .. } finally { .. }`, resolved (JLS 14.20). It is handed the whole statement beside its parts,
-/// so that they are seen to be smaller.
+/// `try { .. } catch (C x) { .. } finally { .. }`, resolved (JLS 14.20). It is handed the whole statement beside its
+/// parts, so that they are seen to be smaller.
 ///
 /// # Errors
-/// `Fault` of a rule that is broken in it. `OutOfMemory` where there is no memory left. The scope then serves no more.
+/// `Fault` of a rule that is broken in it. `OutOfMemory` where memory runs out. The scope then serves no more.
 #[cycle(statements)]
 #[tactic(auto, using(java_exprs::proofs::RulesLemmas::joins))]
 pub fn try_block(

@@ -21,7 +21,7 @@ use Rattle.java_source.specs.Refused.{RefusesFor, lexical_error}
 
 -- ---- lexical faults
 
--- none is a want of memory
+-- none is a memory that runs out
 lexical_known : (kind : TokenKindError) (at : ℕ) → lexical_error kind at ≢ token.OutOfMemory
 lexical_known kinds.Utf8 at is = cc
 lexical_known kinds.Character at is = cc

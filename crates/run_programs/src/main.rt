@@ -1,5 +1,5 @@
-//! Runs the programs of a list, and prints what each prints and how it ends. Its stored run is the table of the machine's
-//! programs, in `data`, whose results come from `java`; `tools/ask_java rows` compares them.
+//! Runs the programs of a list, and prints what each prints and how it ends. Its stored run is the table of the
+//! machine's programs, in `data`, whose results come from `java`; `tools/ask_java rows` compares them.
 //!
 //! A line of the list has a file, a budget of steps and the program's arguments, separated by tabs.
 #![tactic(auto)]

@@ -1,7 +1,7 @@
 //! Reads a file and prints what class_table finds in it: `table` with the number of its classes, `rule R at L:C`, a
 //! fault of its tokens, `syntax at L:C`, `too deep`, or `out of memory`. `bench/table` measures it.
 //!
-//! With the word `tree` behind the file it reads the tree alone and prints `tree`, `syntax at token N`, `too deep`, a
+//! With the word `tree` after the file it reads the tree alone and prints `tree`, `syntax at token N`, `too deep`, a
 //! fault of its tokens, or `out of memory`. `bench/parse` measures that.
 #![tactic(auto)]
 

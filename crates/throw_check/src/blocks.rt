@@ -85,7 +85,8 @@ pub fn branch(
     }
 }
 
-/// `if (c) s else t` or `if (c) s`. It is handed the whole statement beside its parts, so that they are seen to be smaller.
+/// `if (c) s else t` or `if (c) s`. It is handed the whole statement beside its parts, so that they are seen to be
+/// smaller.
 ///
 /// # Errors
 /// As `stmt`.

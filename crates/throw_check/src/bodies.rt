@@ -20,7 +20,7 @@ use std::alloc::Global;
 /// Checks that the exceptions in a method of class number `class` are handled.
 ///
 /// # Errors
-/// `Fault` of rule 23 where one in its body breaks it. `OutOfMemory` where there is no memory left.
+/// `Fault` of rule 23 where one in its body breaks it. `OutOfMemory` where memory runs out.
 #[tactic(auto, using(crate::proofs::LeftLemmas::left_whole))]
 pub fn method(
     alloc: Global,
@@ -60,12 +60,12 @@ fn begun(
     body(alloc, symbols, scope, handlers, rest)
 }
 
-/// Checks that the exceptions in a constructor of class number `class` are handled, those of the superclass's constructor that it
-/// calls included.
+/// Checks that the exceptions in a constructor of class number `class` are handled, those of the superclass's
+/// constructor that it calls included.
 ///
 /// # Errors
-/// `Fault` of rule 23 where one in its body breaks it, or at the word `super` of a call of the superclass's constructor;
-/// where there is no such call, at the constructor's name. `OutOfMemory` where there is no memory left.
+/// `Fault` of rule 23 where one in its body breaks it, or at the word `super` of a call of the superclass's
+/// constructor; where there is no such call, at the constructor's name. `OutOfMemory` where memory runs out.
 #[tactic(auto, using(crate::proofs::LeftLemmas::left_whole))]
 pub fn maker(
     alloc: Global,
@@ -90,12 +90,12 @@ pub fn maker(
     )
 }
 
-/// Checks that the exceptions are handled of the constructor that is made for class number `class`, whose name is token number
-/// `at`: it calls the superclass's constructor without parameters, and declares nothing (JLS 8.8.9).
+/// Checks that the exceptions are handled of the constructor that is made for class number `class`, whose name is token
+/// number `at`: it calls the superclass's constructor without parameters, and declares nothing (JLS 8.8.9).
 ///
 /// # Errors
-/// `Fault` of rule 23 at the name, where that constructor declares a checked exception. `OutOfMemory` where there is no memory
-/// left.
+/// `Fault` of rule 23 at the name, where that constructor declares a checked exception. `OutOfMemory` where there is no
+/// memory left.
 #[tactic(auto, using(crate::proofs::LeftLemmas::left_whole))]
 pub fn made_maker(alloc: Global, symbols: &Symbols, class: u32, at: u32) -> Result<(), CheckError>
     ensures { Allows (files.made_faults symbols.now class [] at) result }
@@ -104,11 +104,11 @@ pub fn made_maker(alloc: Global, symbols: &Symbols, class: u32, at: u32) -> Resu
     check_parent(symbols, &handlers, class, 0, at)
 }
 
-/// Checks that the exceptions in the initialiser of an instance field of class number `class` are handled, where each of these
-/// lists is what a constructor of the class declares (JLS 8.3.2).
+/// Checks that the exceptions in the initialiser of an instance field of class number `class` are handled, where each
+/// of these lists is what a constructor of the class declares (JLS 8.3.2).
 ///
 /// # Errors
-/// `Fault` of rule 23 at the field's name, where one breaks it. `OutOfMemory` where there is no memory left.
+/// `Fault` of rule 23 at the field's name, where one breaks it. `OutOfMemory` where memory runs out.
 #[tactic(auto, using(crate::proofs::FieldLemmas::fields))]
 pub fn field(
     alloc: Global,

@@ -64,8 +64,8 @@ fn called(
 /// `m(..)`
 ///
 /// # Errors
-/// `Fault` of rule 23 at the name, where the method declares an exception that breaks it. `OutOfMemory` where there is no
-/// memory left.
+/// `Fault` of rule 23 at the name, where the method declares an exception that breaks it. `OutOfMemory` where there is
+/// no memory left.
 pub fn call(
     alloc: Global,
     symbols: &Symbols,

@@ -28,7 +28,7 @@ fn declared(
     Ok(classes)
 }
 
-/// What handles an exception at the beginning of a body that declares these. `AllocError` where there is no memory left.
+/// What handles an exception at the beginning of a body that declares these. `AllocError` where memory runs out.
 pub fn handlers_of(
     alloc: Global,
     symbols: &Symbols,
@@ -42,7 +42,7 @@ pub fn handlers_of(
     Ok(Handlers::new(alloc, lists))
 }
 
-/// What each constructor declares among these members. `AllocError` where there is no memory left.
+/// What each constructor declares among these members. `AllocError` where memory runs out.
 pub fn maker_lists(
     alloc: Global,
     symbols: &Symbols,
@@ -60,7 +60,7 @@ pub fn maker_lists(
 }
 
 /// What each constructor of a class declares, with the constructor that is made for a class without one, which declares
-/// nothing (JLS 8.8.9). `AllocError` where there is no memory left.
+/// nothing (JLS 8.8.9). `AllocError` where memory runs out.
 pub fn with_made(
     alloc: Global,
     lists: Items<Numbering<u32>>,
@@ -90,7 +90,7 @@ fn declare_params(
     Ok(())
 }
 
-/// The scope of a method's body, with its parameters. `AllocError` where there is no memory left.
+/// The scope of a method's body, with its parameters. `AllocError` where memory runs out.
 pub fn method_scope(
     alloc: Global,
     symbols: &Symbols,
@@ -104,7 +104,7 @@ pub fn method_scope(
     Ok(scope)
 }
 
-/// The scope of a constructor's body, with its parameters. `AllocError` where there is no memory left.
+/// The scope of a constructor's body, with its parameters. `AllocError` where memory runs out.
 pub fn maker_scope(
     alloc: Global,
     symbols: &Symbols,

@@ -21,7 +21,7 @@ use std::alloc::Global;
 ///
 /// # Errors
 /// `Fault` of rule 23 at the first token of a call or a `new` in it that may throw an exception that breaks the rule.
-/// `OutOfMemory` where there is no memory left.
+/// `OutOfMemory` where memory runs out.
 #[cycle(expressions)]
 #[tactic(auto, using(java_denotes::proofs::KnownLemmas::nodes, crate::proofs::PointLemmas::points, crate::proofs::LeftLemmas::joins))]
 pub fn expr(

@@ -106,15 +106,15 @@ fn classes(alloc: Global, symbols: &Symbols, list: &[ClassTree]) -> Result<(), C
     Ok(())
 }
 
-/// Checks that a file keeps rule 23: each checked exception that a `throw`, a call or a `new` may throw is caught by a `catch`
-/// around it, or declared after `throws` by the method or constructor that it stands in (JLS 11.2.3). One in the
-/// initialiser of an instance field is declared by each constructor of the class. `table` is the table of the file's
-/// classes, and `tree` the file, in which the rules before are kept; both stay as they are.
+/// Checks that a file keeps rule 23: each checked exception that a `throw`, a call or a `new` may throw is caught by a
+/// `catch` around it, or declared after `throws` by the method or constructor that it stands in (JLS 11.2.3). One in
+/// the initialiser of an instance field is declared by each constructor of the class. `table` is the table of the
+/// file's classes, and `tree` the file, in which the rules before are kept; both stay as they are.
 ///
 /// # Errors
-/// `Fault` of rule 23 where it is broken: at the word `throw`, at the first token of a call, at `new`, at the word `super` of
-/// a call of the superclass's constructor or else at the constructor's name, at the class's name where its constructor is
-/// made, and at a field's name. `OutOfMemory` where there is no memory left.
+/// `Fault` of rule 23 where it is broken: at the word `throw`, at the first token of a call, at `new`, at the word
+/// `super` of a call of the superclass's constructor or else at the constructor's name, at the class's name where its
+/// constructor is made, and at a field's name. `OutOfMemory` where memory runs out.
 pub fn check(alloc: Global, table: &ClassTable, tree: &FileTree) -> Result<(), CheckError>
     ensures { Allows (faults_of table.now tree.now) result }
 {

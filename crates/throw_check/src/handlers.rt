@@ -15,14 +15,15 @@ use std::alloc::{AllocError, Global};
 /// What handles an exception at a place.
 #[derive(Drop)]
 pub struct Handlers {
-    /// What the methods or constructors declare that run the place, a list of classes for each; each of them must declare it.
+    /// What the methods or constructors declare that run the place, a list of classes for each; each of them must
+    /// declare it.
     pub declared: Items<Numbering<u32>>,
     /// The classes of the catch clauses around it, a list for each `try`; one of them must catch it.
     pub caught: Items<Numbering<u32>>,
 }
 
-// Whether class number `class` is checked: `Throwable` or below it, and neither `RuntimeException` nor `Error` nor below
-// these (JLS 11.1.1).
+// Whether class number `class` is checked: `Throwable` or below it, and neither `RuntimeException` nor `Error` nor
+// below these (JLS 11.1.1).
 fn is_checked(symbols: &Symbols, class: u32) -> bool
     ensures { result ≡ spec.is_checked symbols.now class }
 {
@@ -85,8 +86,8 @@ impl Handlers {
         classes.iter().any(|class| self.is_broken(symbols, *class))
     }
 
-    /// Checks that exceptions of these classes are handled, which may be thrown at token `at`. It takes time in proportion to
-    /// their number, the number of `try` around the place, and the depth of inheritance.
+    /// Checks that exceptions of these classes are handled, which may be thrown at token `at`. It takes time in
+    /// proportion to their number, the number of `try` around the place, and the depth of inheritance.
     ///
     /// # Errors
     /// `Fault` of rule 23 at the token, where one of them is checked and neither caught nor declared.
@@ -100,7 +101,7 @@ impl Handlers {
         Ok(())
     }
 
-    /// Goes into the block of a `try` whose catch clauses have these classes. `AllocError` where there is no memory left.
+    /// Goes into the block of a `try` whose catch clauses have these classes. `AllocError` where memory runs out.
     pub fn enter(&mut self, classes: Numbering<u32>) -> Result<(), AllocError>
         ensures { OnOk result (self.new ≡ inside_try self.old classes) }
     {

@@ -11,7 +11,7 @@ use java_syntax::{Ident, LocalTree};
 use sqlite_items::Items;
 use std::alloc::{AllocError, Global};
 
-/// Declares a local of this type, unless a local in scope has its name. `AllocError` where there is no memory left, or no
+/// Declares a local of this type, unless a local in scope has its name. `AllocError` where memory runs out, or no
 /// number; then the scope serves no more.
 pub fn declare(scope: &mut Scope, name: &Ident, ty: Shared<Ty>) -> Result<(), AllocError>
     ensures { OnOk result (scope.new ≡ with_local scope.old name.now ty) }

@@ -35,8 +35,8 @@ fn local(
 /// Checks that the exceptions of a statement are handled. What it declares is in the scope from then on.
 ///
 /// # Errors
-/// `Fault` of rule 23 at a `throw`, a call or a `new` in it that may throw an exception that breaks the rule. `OutOfMemory`
-/// where there is no memory left. The scope and the handlers then serve no more.
+/// `Fault` of rule 23 at a `throw`, a call or a `new` in it that may throw an exception that breaks the rule.
+/// `OutOfMemory` where memory runs out. The scope and the handlers then serve no more.
 #[cycle(statements)]
 #[tactic(auto, using(crate::proofs::StatementLemmas::points_of_kinds, crate::proofs::StatementLemmas::behind_kinds, crate::proofs::LeftLemmas::left_none))]
 pub fn stmt(

@@ -85,8 +85,8 @@ fn each_clause(
     Ok(())
 }
 
-/// `try { .. } catch (C x) { .. } finally { .. }`: what its clauses catch is handled in its block, and not in the clauses
-/// and after `finally`.
+/// `try { .. } catch (C x) { .. } finally { .. }`: what its clauses catch is handled in its block, and not in the
+/// clauses and after `finally`.
 ///
 /// # Errors
 /// As `stmt`.

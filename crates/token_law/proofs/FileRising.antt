@@ -20,7 +20,7 @@ use Rattle.token_law.proofs.OnwardMembers.{modifiers_onward, answer_onward, invo
 use Rattle.token_law.proofs.Rising.{Rising, RisingAll, sooner, all_sooner, same_type}
 use Rattle.token_law.specs.Tokens.{HasOwnTokens}
 
--- behind a member the names rise on, and its own stands before
+-- after a member the names rise on, and its own stands before
 abbrev Continues : ℕ → ℕ → Member → List Member → List Lexeme → Type 0
 Continues at c t more rest =
     (to : ℕ) × ((end : ℕ) → Rising to (fields_in c more) end → Rising at (fields_in c (t ∷ more)) end) × From to rest

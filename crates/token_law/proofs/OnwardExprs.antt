@@ -1,4 +1,4 @@
--- What is left behind an expression is numbered on.
+-- What is left after an expression is numbered on.
 use Rattle.std.proofs.Common.{ℕ, zero, suc, List, [], ◌∷◌}
 use Rattle.java_syntax.specs.declared.expression.Expr.{Expr, out-Expr}
 use Rattle.java_syntax.specs.declared.expression.Expr.TheOpen.{Expr-F}

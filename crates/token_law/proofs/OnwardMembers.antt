@@ -1,4 +1,4 @@
--- What is left behind a part of a member or class is numbered on.
+-- What is left after a part of a member or class is numbered on.
 use Rattle.std.proofs.Common.{ℕ, List, [], ◌∷◌, Bool, true, false, Option, Some, None}
 use Rattle.java_syntax.specs.declared.class.Modifier.{Modifier}
 use Rattle.token_reading.specs.declared.name.ParamTree.{ParamTree}

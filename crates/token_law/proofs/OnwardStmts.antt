@@ -1,4 +1,4 @@
--- What is left behind a statement is numbered on.
+-- What is left after a statement is numbered on.
 use Rattle.std.proofs.Math.Logic.{inl, inr}
 use Rattle.std.proofs.Common.{ℕ, zero, suc, List, [], ◌∷◌, Bool, true, false, Option, Some, None}
 use Rattle.java_tokens.specs.declared.token.Operator.{Operator}

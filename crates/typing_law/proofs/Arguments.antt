@@ -2,6 +2,7 @@
 use Rattle.std.proofs.Common.{◌≡◌, ◌∙◌, ℕ, suc, false, IsTrue, List, [], ◌∷◌, length, map, refl, subst, sym, arith, if◌then◌else◌}
 use Rattle.std.specs.List.{list_all}
 use Rattle.std.proofs.lemmas.Bool.{and_from}
+use Rattle.std.specs.Cmp.{first_so, second_so}
 use Rattle.core_tree.specs.declared.ty.Ty.{Ty}
 use Rattle.core_tree.specs.declared.program.Program.{Program}
 use Rattle.core_tree.specs.Types.{is_void}
@@ -16,7 +17,7 @@ use Rattle.typing_law.specs.Agrees.{Agrees}
 use Rattle.typing_law.proofs.Types.{same_assignable}
 use Rattle.typing_law.proofs.Values.{value_not_void}
 use Rattle.typing_law.proofs.NoFaults.{empty_parts}
-use Rattle.typing_law.proofs.Standing.{and_l, and_r, has_fits}
+use Rattle.typing_law.proofs.Standing.{has_fits}
 use Rattle.typing_law.proofs.Parts.{Holds, IsValue, value_part, wanted}
 
 -- each of some parts is right where it breaks no rule
@@ -43,7 +44,7 @@ module _ (env : Environment) (p : Program) (agrees : Agrees env p) (core : CoreS
       let below = empty_parts (value_faults e) (values_faults es) none in
       let asked = empty_parts (wants_type env t e) (wants_each env es ts) wanted_none in
       let lengths : length ts ≡ length es = omega arith in
-      let value = and_l (is_value p t) (list_all (is_value p) ts) values in
+      let value = first_so (is_value p t) (list_all (is_value p) ts) values in
       and_from (fits p t (type_of p core e.core)) (all_fit p ts (map (type_of p core) (cores es)))
       (fits_wanted t e (value_part p core e hold.0 below.0) (value_not_void (length p.classes) t value) asked.0)
-      (arguments_fit es ts hold.1 below.1 asked.1 lengths (and_r (is_value p t) (list_all (is_value p) ts) values))
+      (arguments_fit es ts hold.1 below.1 asked.1 lengths (second_so (is_value p t) (list_all (is_value p) ts) values))

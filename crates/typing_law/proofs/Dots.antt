@@ -1,8 +1,9 @@
--- What stands behind a dot: a field or method that breaks no rule is well typed (JLS 15.11, 15.12).
+-- What stands after a dot: a field or method that breaks no rule is well typed (JLS 15.11, 15.12).
 use Rattle.std.proofs.Common.{◌≡◌, ◌∙◌, ℕ, suc, Bool, true, false, not, ◌||◌, ◌&&◌, ◌==◌, IsTrue, List, [], ◌∷◌, length, Option, Some, None, option_map, is_some, refl, subst, sym, ap, arith, if◌then◌else◌}
 use Rattle.std.specs.Prelude.{option_and_then, unwrap_or}
 use Rattle.std.specs.Option.{option_map_or}
 use Rattle.std.proofs.lemmas.Bool.{false≢true, eqb-true, or_right, and_from}
+use Rattle.std.specs.Cmp.{first_so, second_so}
 use Rattle.core_tree.specs.declared.ty.Ty.{Ty}
 use Rattle.core_tree.specs.declared.ty.Ty.TheVariants as ty
 use Rattle.core_tree.specs.declared.expr.Expr.{Expr as Core}
@@ -35,7 +36,7 @@ use Rattle.typing_law.specs.Means.{HasType, Means, MeansForm}
 use Rattle.typing_law.specs.Agrees.{Agrees, AgreesOnScope}
 use Rattle.typing_law.proofs.TypeFacts as facts
 use Rattle.typing_law.proofs.NoFaults.{empty_parts, unless_empty, only_if_empty, no_place}
-use Rattle.typing_law.proofs.Standing.{and_l, and_r, exact, has_string, has_printed}
+use Rattle.typing_law.proofs.Standing.{exact, has_string, has_printed}
 use Rattle.typing_law.proofs.Parts.{Holds, IsValue, value_part, prefix_part, wanted}
 use Rattle.typing_law.proofs.Nodes.{breaks_none, has_type_int, has_type_bool, where_holds}
 use Rattle.typing_law.proofs.Arguments.{AllHold, fits_wanted}
@@ -83,7 +84,7 @@ module _ (env : Environment) (p : Program) (agrees : Agrees env p) (s : Scope) (
 
   length_right : (o : Attr) (f : Ident) (t : Ty) → HasType p cs o.core t → IsTrue (is_array t && same_name f.name length_name) → Means p cs (view.Length o.core) (library_field f.name (Some (denotes.Value t)))
   length_right o f t has is =
-      let array = and_l (is_array t) (same_name f.name length_name) is in
+      let array = first_so (is_array t) (same_name f.name length_name) is in
       let e = some_of (elements_of t) array in
       subst (λ b. Means p cs (view.Length o.core) (if b then Some (denotes.Value ty.Int) else None)) (sym is)
       (has_type_int p cs (view.Length o.core) (type_of-Length p cs o.core ∙ ap (λ x. option_and_then (λ e. Some ty.Int) (option_and_then elements_of x)) (exact p cs o.core t has is_array (ap is_some facts.elements-Text) array) ∙ ap (option_and_then (λ e. Some ty.Int)) e.1))
@@ -165,7 +166,7 @@ module _ (env : Environment) (p : Program) (agrees : Agrees env p) (s : Scope) (
   text_right o m (x ∷ xs) t hold below has string false is_equals known none_11 none_12 =
       absurd (not_zero (length xs) (unless_empty (suc (length xs) == 0) m.at (subst (λ b. (if b then unless (suc (length xs) == 0) m.at else []) ≡ []) known none_12)))
 
-  -- what is no object, and has members, is a String: an array has no methods
+  -- what isn't an object, and has members, is a String: an array has no methods
   string_of : (t : Ty) (known : Bool) → (not (has_members t) || (is_string t && known)) ≡ true → IsTrue (has_members t) → IsTrue (is_string t && known)
   string_of t known is members = no_members (has_members t) (is_string t && known) is members
 
@@ -187,10 +188,10 @@ module _ (env : Environment) (p : Program) (agrees : Agrees env p) (s : Scope) (
       string_members string = or_right (is_object t) (is_string t) string
 
       cases : (b : Bool) → is_string t ≡ b → Means p cs (text_core o m.name (cores xs)) (library_method m.name xs (Some (denotes.Value t)))
-      cases false other = absurd (false≢true (sym other ∙ and_l (is_string t) (is_text_method m.name) (no_members (has_members t) (is_string t && is_text_method m.name) known (library_members o m xs t said other none_11))))
+      cases false other = absurd (false≢true (sym other ∙ first_so (is_string t) (is_text_method m.name) (no_members (has_members t) (is_string t && is_text_method m.name) known (library_members o m xs t said other none_11))))
       cases true string =
           subst (λ b. Means p cs (text_core o m.name (cores xs)) (if b then text_method m.name else None)) (sym string)
-          (text_right o m xs t hold below has string (same_name m.name equals_name) refl (and_r (is_string t) (is_text_method m.name) (no_members (has_members t) (is_string t && is_text_method m.name) known (string_members string)))
+          (text_right o m xs t hold below has string (same_name m.name equals_name) refl (second_so (is_string t) (is_text_method m.name) (no_members (has_members t) (is_string t && is_text_method m.name) known (string_members string)))
           none_11 (subst (λ b. (if b then text_12 m xs else []) ≡ []) string none_12))
 
   method_means : (o : Attr) (m : Ident) (xs : List Attr) (d : Option Denotation) → AllHold p cs xs → values_faults xs ≡ [] → o.denotes ≡ d → Means p cs o.core d → only_if (is_nothing d) o.at ≡ [] →

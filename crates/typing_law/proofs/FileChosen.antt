@@ -29,8 +29,8 @@ use Rattle.java_names.specs.Selectors.{same_selector, selector_of, message_selec
 use Rattle.java_names.specs.Symbols.{class_symbol, method_symbol, method_symbols, selectors_in}
 use Rattle.primitive_operators.specs.declared.scalar.Scalar.{Scalar}
 use Rattle.java_exprs.specs.Lookups.{method_of}
-use Rattle.java_types.specs.Declarations.{declaration_faults}
-use Rattle.java_types.specs.Files.{of_members, core_class}
+use Rattle.java_members.specs.Declarations.{declaration_faults}
+use Rattle.java_members.specs.Files.{of_members, core_class}
 use Rattle.java_names.proofs.NumberingLemmas.{is_some-position}
 use Rattle.typing_law.proofs.Nodes.{where_holds}
 use Rattle.typing_law.proofs.Tables.{numbers_at, env_with, program_with, class_symbol_at, class_core_at, same_below}

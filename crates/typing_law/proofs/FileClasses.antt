@@ -27,9 +27,9 @@ use Rattle.java_exprs.specs.declared.environment.Environment.{Environment}
 use Rattle.java_exprs.specs.Attr.{of_rule}
 use Rattle.java_exprs.specs.Lookups.{class_named, unknown_type}
 use Rattle.java_statements.specs.Statements.{again_10, exception_10}
-use Rattle.java_types.specs.Declarations.{with_param, params_10, answer_10, declared_10, declared_11, declared_20, declaration_faults}
+use Rattle.java_members.specs.Declarations.{with_param, params_10, answer_10, declared_10, declared_11, declared_20, declaration_faults}
 use Rattle.java_names.specs.Scope.{method_scope, maker_scope}
-use Rattle.java_types.specs.Files.{of_members}
+use Rattle.java_members.specs.Files.{of_members}
 use Rattle.typing_law.proofs.NoFaults.{empty_parts, empty_rule}
 use Rattle.typing_law.proofs.Spelled.{declared_value}
 use Rattle.typing_law.proofs.Tables.{row_at}

@@ -43,10 +43,10 @@ use Rattle.java_exprs.specs.Rules.{wants, wants_type}
 use Rattle.java_exprs.specs.Checks.{attr}
 use Rattle.java_exprs.specs.Constants.{read_folded, field_folded, folded_of, literal_of}
 use Rattle.java_exprs.specs.Lookups.{member_of, constant_at, type_named, unknown_type}
-use Rattle.java_types.specs.Constants.{Reading, initialiser_folded, is_initialiser, initialiser_20, constant_faults_of, constant_faults, where_sound, constant_value, read_constant, read_member, read_members, read_classes}
-use Rattle.java_types.specs.Declarations.{declared_10, declared_11, declared_20, declaration_faults, is_constant_type, constant_type_20, field_words_20}
+use Rattle.java_members.specs.Constants.{Reading, initialiser_folded, is_initialiser, initialiser_20, constant_faults_of, constant_faults, where_sound, constant_value, read_constant, read_member, read_members, read_classes}
+use Rattle.java_members.specs.Declarations.{declared_10, declared_11, declared_20, declaration_faults, is_constant_type, constant_type_20, field_words_20}
 use Rattle.java_names.specs.Scope.{constant_scope}
-use Rattle.java_types.specs.Files.{of_members, env_of, reading_of}
+use Rattle.java_members.specs.Files.{of_members, env_of, reading_of}
 use Rattle.typing_law.specs.Agrees.{is_literal_of}
 use Rattle.token_law.specs.Tokens.{HasOwnTokens}
 use Rattle.typing_law.proofs.TypeFacts as facts

@@ -11,7 +11,7 @@ use Rattle.java_syntax.specs.declared.class.Member.TheVariants as member
 use Rattle.class_table.specs.declared.row.FieldRow.{FieldRow}
 use Rattle.class_table.specs.Fields.{numbered}
 use Rattle.class_table.specs.Members.{field_row, fields_in, is_instance, is_static}
-use Rattle.java_types.specs.Bodies.{core_field}
+use Rattle.java_members.specs.Bodies.{core_field}
 use Rattle.class_table.specs.Names.{Name}
 use Rattle.java_names.specs.Types.{declared_type}
 use Rattle.java_exprs.specs.declared.environment.Environment.{Environment}
@@ -21,7 +21,7 @@ use Rattle.class_table.specs.BuiltIn.{built_in}
 use Rattle.class_table.specs.Declarations.{declaration, declared_of}
 use Rattle.class_table.specs.Fields.{fields_at, instance_total, placed_at, fields_along}
 use Rattle.class_table.specs.Names.{class_names}
-use Rattle.java_types.specs.Files.{own_field, own_fields, all_own_fields}
+use Rattle.java_members.specs.Files.{own_field, own_fields, all_own_fields}
 use Rattle.typing_law.proofs.FileClasses.{declaration_at}
 
 numbers_shift : (n k : ℕ) → suc n + k ≡ n + suc k

@@ -18,8 +18,8 @@ use Rattle.java_names.specs.Numbers.{first_numbers}
 use Rattle.java_names.specs.Symbols.{class_symbol}
 use Rattle.primitive_operators.specs.declared.scalar.Scalar.{Scalar}
 use Rattle.java_exprs.specs.Lookups.{superclass_of, method_of}
-use Rattle.java_types.specs.Declarations.{declaration_faults}
-use Rattle.java_types.specs.Files.{of_members}
+use Rattle.java_members.specs.Declarations.{declaration_faults}
+use Rattle.java_members.specs.Files.{of_members}
 use Rattle.typing_law.specs.Agrees.{AgreesOnSuper}
 use Rattle.typing_law.proofs.Nodes.{where_holds}
 use Rattle.typing_law.proofs.Tables.{numbers_at, env_with, program_with, class_symbol_at, same_below}

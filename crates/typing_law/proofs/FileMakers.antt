@@ -19,8 +19,8 @@ use Rattle.java_names.specs.Symbols.{maker_symbol, maker_symbols, maker_arities,
 use Rattle.java_names.specs.Types.{declared_type, declared_types}
 use Rattle.class_table.specs.declared.row.ClassRow.{ClassRow}
 use Rattle.java_exprs.specs.declared.environment.Environment.{Environment}
-use Rattle.java_types.specs.Bodies.{core_maker}
-use Rattle.java_types.specs.Files.{own_maker, of_members, of_made}
+use Rattle.java_members.specs.Bodies.{core_maker}
+use Rattle.java_members.specs.Files.{own_maker, of_members, of_made}
 use Rattle.std.proofs.lemmas.List.{length-map}
 use Rattle.core_tree.specs.WellTyped.{is_value}
 use Rattle.java_syntax.specs.declared.class.FileTree.{FileTree}
@@ -29,8 +29,8 @@ use Rattle.class_table.specs.Table.{table_of}
 use Rattle.java_names.specs.Numbers.{first_numbers}
 use Rattle.java_names.specs.Symbols.{names_of}
 use Rattle.primitive_operators.specs.declared.scalar.Scalar.{Scalar}
-use Rattle.java_types.specs.Bodies.{made_maker}
-use Rattle.java_types.specs.Declarations.{declaration_faults}
+use Rattle.java_members.specs.Bodies.{made_maker}
+use Rattle.java_members.specs.Declarations.{declaration_faults}
 use Rattle.typing_law.specs.Agrees.{AgreesOnMaker}
 use Rattle.typing_law.proofs.Scopes.{get_before}
 use Rattle.typing_law.proofs.Tables.{numbers_at, env_with, program_with, class_within}

@@ -35,8 +35,8 @@ use Rattle.java_names.specs.Types.{declared_type}
 use Rattle.java_exprs.specs.declared.environment.Environment.{Environment}
 use Rattle.primitive_operators.specs.declared.scalar.Scalar.{Scalar}
 use Rattle.java_exprs.specs.Lookups.{member_of, unknown_type}
-use Rattle.java_types.specs.Declarations.{declaration_faults}
-use Rattle.java_types.specs.Files.{of_members, core_class, fields_of, all_own_fields}
+use Rattle.java_members.specs.Declarations.{declaration_faults}
+use Rattle.java_members.specs.Files.{of_members, core_class, fields_of, all_own_fields}
 use Rattle.typing_law.proofs.NoFaults.{empty_parts}
 use Rattle.typing_law.proofs.Scopes.{get_before}
 use Rattle.typing_law.proofs.Spelled.{declared_value}

@@ -1,4 +1,5 @@
--- A `getMessage` that a class below Throwable declares has the parameters and the result of the built-in one (JLS 8.4.8).
+-- A `getMessage` that a class below Throwable declares has the parameters and the result of the built-in one (JLS
+-- 8.4.8).
 use Rattle.std.proofs.Common.{◌≡◌, ◌∙◌, ⊎_elim, ◌⊎◌, inl, inr, ℕ, zero, suc, ◌+◌, ◌≤◌, Bool, true, false, not, ◌||◌, ◌&&◌, ◌==◌, IsTrue, List, [], ◌∷◌, length, drop, codes, Option, Some, None, option_map, slice_get, get_or, refl, subst, sym, ap, arith, if◌then◌else◌}
 use Rattle.std.specs.Prelude.{nat_eq, position, unwrap_or, find}
 use Rattle.std.specs.Bool.{beq}
@@ -8,6 +9,7 @@ use Rattle.std.specs.Cmp.Lexicographic.{same_text}
 use Rattle.std.proofs.lemmas.Option.{same_Some}
 use Rattle.std.proofs.lemmas.Bool.{false≢true, eqb-true, or_left, or_right}
 use Rattle.std.proofs.lemmas.List.Quantifiers.{position-Some}
+use Rattle.std.specs.Cmp.{first_so, second_so}
 use Rattle.core_tree.specs.declared.built_in.BuiltIn.TheVariants as built_in_class
 use Rattle.core_tree.specs.declared.ty.Ty.TheVariants as ty
 use Rattle.core_tree.specs.Typing.{is_throwable}
@@ -37,9 +39,8 @@ use Rattle.typing_law.proofs.FileChosen.{row_of_below}
 use Rattle.java_names.specs.Selectors.{same_selector, selector_of, message_selector}
 use Rattle.java_names.specs.Types.{answer_type, arrays, base_type, named_type, declared_types}
 use Rattle.primitive_operators.specs.declared.scalar.Scalar.{Scalar}
-use Rattle.java_types.specs.Declarations.{declaration_faults}
-use Rattle.java_types.specs.Files.{of_members}
-use Rattle.typing_law.proofs.Standing.{and_l, and_r}
+use Rattle.java_members.specs.Declarations.{declaration_faults}
+use Rattle.java_members.specs.Files.{of_members}
 use Rattle.typing_law.proofs.Tables.{row_at, env_with, program_with}
 use Rattle.typing_law.proofs.FileMakers.{shifted, found_by}
 use Rattle.typing_law.proofs.FileMethods.{IsOfFile, all_names, all_selectors, symbols}
@@ -50,10 +51,10 @@ use Rattle.typing_law.proofs.FileLines.{line_cases, line_is, throwable_below}
 string_answer : (names : List Name) (t : Option TypeTree) → same_answer t (Some string_type) ≡ true → answer_type names t ≡ ty.Text
 string_answer names None same = absurd (false≢true same)
 string_answer names (Some a) same =
-    of_base a.base (and_l (same_base a.base string_type.base) (a.dimensions == 0) same)
+    of_base a.base (first_so (same_base a.base string_type.base) (a.dimensions == 0) same)
   where
     dimensions : a.dimensions ≡ 0
-    dimensions = eqb-true a.dimensions 0 (and_r (same_base a.base string_type.base) (a.dimensions == 0) same)
+    dimensions = eqb-true a.dimensions 0 (second_so (same_base a.base string_type.base) (a.dimensions == 0) same)
 
     of_base : (b : BaseType) → same_base b string_type.base ≡ true → unwrap_or (option_map (arrays a.dimensions) (base_type names b)) ty.Void ≡ ty.Text
     of_base base.Int same = absurd (false≢true same)
@@ -196,7 +197,7 @@ module _ (tree : FileTree) (constants : List (ℕ × Option Scalar)) (none : of_
               let s = beq (is_static y.mods) (is_static get_message.mods) in
               let q = not (is_private y.mods) in
               let t = list_all (is_allowed (class_names tree.classes) (declared_of tree.classes) get_message.throws) y.throws in
-              and_r (a && b) k (and_l ((a && b) && k) s (and_l (((a && b) && k) && s) q (and_l ((((a && b) && k) && s) && q) t is)))
+              second_so (a && b) k (first_so ((a && b) && k) s (first_so (((a && b) && k) && s) q (first_so ((((a && b) && k) && s) && q) t is)))
 
   -- a `getMessage` that is called by selector 0 below Throwable
   pub message_is : (c : ℕ) (key : Selector) (m : MethodSymbol) → IsOfFile tree constants none c key m → m.is_static ≡ false → ((unwrap_or m.selector 0 == 0) && is_throwable (program_with table tree constants) c) ≡ true → (m.params ≡ []) × (m.answer ≡ ty.Text)
@@ -206,16 +207,16 @@ module _ (tree : FileTree) (constants : List (ℕ × Option Scalar)) (none : of_
       let instance_row : is_static y.mods ≡ false = sym (ap (λ s. s.is_static) it.found.is_symbol) ∙ instance in
       let has = has_selector table.classes it.class it.found.place it.row y it.is_row it.found.is_row instance_row in
       let selector : m.selector ≡ Some has.0 = ap (λ s. s.selector) it.found.is_symbol ∙ ap (λ b. if b then None else position (same_selector (selector_of y)) (all_selectors tree constants none)) instance_row ∙ has.1 in
-      let zero_is : has.0 ≡ 0 = eqb-true has.0 0 (ap (λ s. unwrap_or s 0 == 0) (sym selector) ∙ and_l (unwrap_or m.selector 0 == 0) (is_throwable (program_with table tree constants) c) is) in
+      let zero_is : has.0 ≡ 0 = eqb-true has.0 0 (ap (λ s. unwrap_or s 0 == 0) (sym selector) ∙ first_so (unwrap_or m.selector 0 == 0) (is_throwable (program_with table tree constants) c) is) in
       let first = first_selector table.classes in
       let same : same_selector (selector_of y) message_selector ≡ true =
       ap (λ all. same_selector (selector_of y) (get_or all 0 message_selector)) (sym first.1) ∙ ap (λ k. same_selector (selector_of y) (get_or (all_selectors tree constants none) k message_selector)) (sym zero_is) ∙ (position-Some (same_selector (selector_of y)) (all_selectors tree constants none) has.0 message_selector has.1).1 in
-      let below : IsTrue (is_below (symbols tree constants none) c 1) = sym (throwable_below tree constants none is_table short c) ∙ and_r (unwrap_or m.selector 0 == 0) (is_throwable (program_with table tree constants) c) is in
+      let below : IsTrue (is_below (symbols tree constants none) c 1) = sym (throwable_below tree constants none is_table short c) ∙ second_so (unwrap_or m.selector 0 == 0) (is_throwable (program_with table tree constants) c) is in
       let row = row_there c 1 below in
       let under = below_throwable c row.0 it.class it.least row.1 (subst (stands it.class) (line_is tree constants none is_table short c row.0 row.1) it.below) (subst (stands 1) (line_is tree constants none is_table short c row.0 row.1) below) in
       let same_row : under.0 ≡ it.row = same_Some _ _ (sym under.1 ∙ it.is_row) in
       let answer = overrides it.class it.row it.found.place y it.least it.is_row (subst (λ r. stands 1 r.line) same_row under.2) it.found.is_row same in
-      let arity : length y.params ≡ 0 = eqb-true (length y.params) 0 (and_r (same_name y.name message_selector.name) (nat_eq (length y.params) 0) same) in
+      let arity : length y.params ≡ 0 = eqb-true (length y.params) 0 (second_so (same_name y.name message_selector.name) (nat_eq (length y.params) 0) same) in
       (ap (λ s. s.params) it.found.is_symbol ∙ ap (declared_types (all_names tree constants none)) (no_params y.params arity), ap (λ s. s.answer) it.found.is_symbol ∙ answer)
     where
       row_there : (c d : ℕ) → IsTrue (is_below (symbols tree constants none) c d) → (row : ClassRow) × (slice_get table.classes c ≡ Some row)

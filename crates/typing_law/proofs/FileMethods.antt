@@ -6,6 +6,7 @@ use Rattle.std.specs.Option.{option_or}
 use Rattle.std.proofs.lemmas.Option.{none-some, same_Some, option_and_then_some, slice_get-map, get_or_from_slice_get}
 use Rattle.std.proofs.lemmas.Bool.{eqb-true, eq-eqb, ltb-true, ltb-false, or_left, or_right}
 use Rattle.std.proofs.lemmas.List.Quantifiers.{position-Some}
+use Rattle.std.specs.Cmp.{second_so}
 use Rattle.core_tree.specs.declared.ty.Ty.TheVariants as ty
 use Rattle.core_tree.specs.declared.program.Method.{Method}
 use Rattle.java_syntax.specs.declared.class.Member.{Member}
@@ -35,11 +36,10 @@ use Rattle.java_names.specs.Types.{declared_types, answer_type}
 use Rattle.java_exprs.specs.declared.environment.Environment.{Environment}
 use Rattle.primitive_operators.specs.declared.scalar.Scalar.{Scalar}
 use Rattle.java_exprs.specs.Lookups.{method_of}
-use Rattle.java_types.specs.Bodies.{core_method}
-use Rattle.java_types.specs.Declarations.{declaration_faults}
-use Rattle.java_types.specs.Files.{own_method, of_members}
+use Rattle.java_members.specs.Bodies.{core_method}
+use Rattle.java_members.specs.Declarations.{declaration_faults}
+use Rattle.java_members.specs.Files.{own_method, of_members}
 use Rattle.typing_law.specs.Agrees.{AgreesOnStatic}
-use Rattle.typing_law.proofs.Standing.{and_r}
 use Rattle.typing_law.proofs.Tables.{row_at, numbers_at, env_with, program_with, class_symbol_at, class_within}
 use Rattle.typing_law.proofs.Numbered.{stands_at}
 use Rattle.typing_law.proofs.FileClasses.{tree_at, of_class, HasMethodValues, method_values}
@@ -218,7 +218,7 @@ module _ (tree : FileTree) (constants : List (ℕ × Option Scalar)) (none : of_
   look d number ms key = option_and_then (λ n. slice_get (method_symbols all_names all_selectors d number ms) n) (position (same_selector key) (selectors_in ms))
 
   same_arity : (x : List ℕ) (arity : ℕ) (y : MethodRow) → same_selector (record { name = x; arity = arity }) (selector_of y) ≡ true → length y.params ≡ arity
-  same_arity x arity y same = sym (eqb-true arity (length y.params) (and_r (same_name x y.name) (nat_eq arity (length y.params)) same))
+  same_arity x arity y same = sym (eqb-true arity (length y.params) (second_so (same_name x y.name) (nat_eq arity (length y.params)) same))
 
   message_answer : answer_type all_names (Some string_type) ≡ ty.Text
   message_answer = refl

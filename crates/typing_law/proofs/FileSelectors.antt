@@ -9,6 +9,7 @@ use Rattle.std.proofs.lemmas.Bool.{false≢true, eqb-true, eq-eqb, or_left, or_r
 use Rattle.std.proofs.lemmas.Cmp.{nat_list_eq_equiv}
 use Rattle.std.proofs.lemmas.List.Folds.{list_any-append}
 use Rattle.std.proofs.lemmas.List.Quantifiers.{position-Some}
+use Rattle.std.specs.Cmp.{first_so, second_so}
 use Rattle.class_table.specs.declared.row.ClassRow.{ClassRow}
 use Rattle.class_table.specs.declared.row.MethodRow.{MethodRow}
 use Rattle.class_table.specs.Members.{is_static}
@@ -20,7 +21,6 @@ use Rattle.java_names.specs.Lookups.{nearest}
 use Rattle.java_names.specs.Selectors.{same_selector, selector_of, message_selector, with_selector, selectors_of}
 use Rattle.java_names.specs.Symbols.{following, method_symbol, method_symbols, selectors_in}
 use Rattle.java_names.proofs.NumberingLemmas.{is_some-position}
-use Rattle.typing_law.proofs.Standing.{and_l, and_r}
 use Rattle.typing_law.proofs.Operators.{no_or}
 use Rattle.typing_law.proofs.Scopes.{get_before}
 use Rattle.typing_law.proofs.Numbered.{get_behind}
@@ -29,7 +29,7 @@ use Rattle.typing_law.proofs.Numbered.{get_behind}
 
 pub same_parts : (a b : Selector) → same_selector a b ≡ true → (a.name ≡ b.name) × (a.arity ≡ b.arity)
 same_parts a b same =
-    (same_text a.name b.name (sym (and_l (same_name a.name b.name) (nat_eq a.arity b.arity) same)), eqb-true a.arity b.arity (and_r (same_name a.name b.name) (nat_eq a.arity b.arity) same))
+    (same_text a.name b.name (sym (first_so (same_name a.name b.name) (nat_eq a.arity b.arity) same)), eqb-true a.arity b.arity (second_so (same_name a.name b.name) (nat_eq a.arity b.arity) same))
 
 pub of_parts : (a b : Selector) → a.name ≡ b.name → a.arity ≡ b.arity → same_selector a b ≡ true
 of_parts a b name arity = and_from (same_name a.name b.name) (nat_eq a.arity b.arity) (ap (same_name a.name) (sym name) ∙ nat_list_eq_equiv.refl a.name) (eq-eqb a.arity b.arity arity)

@@ -4,6 +4,7 @@ use Rattle.std.specs.Prelude.{nat_le, int_div, int_rem, option_and_then, pos}
 use Rattle.std.specs.List.{list_all}
 use Rattle.std.specs.Option.{option_map_or}
 use Rattle.std.proofs.lemmas.Bool.{false≢true, or_right}
+use Rattle.std.specs.Cmp.{first_so, second_so}
 use Rattle.pb_int.specs.Int32.{wrap}
 use Rattle.core_tree.specs.declared.ty.Ty.{Ty}
 use Rattle.core_tree.specs.declared.ty.Ty.TheVariants as ty
@@ -43,7 +44,6 @@ use Rattle.java_exprs.specs.Constants.{field_folded, found_folded, name_folded, 
 use Rattle.java_exprs.specs.Operators.{is_made, unary_folded, binary_folded, strict_folded, binary_value, choice_folded, gives_bool, gives_int}
 use Rattle.typing_law.proofs.TypeFacts as facts
 use Rattle.typing_law.proofs.NoFaults.{empty_parts, empty_rule, unless_empty, only_if_empty}
-use Rattle.typing_law.proofs.Standing.{and_l, and_r}
 use Rattle.typing_law.proofs.Nodes.{breaks_none}
 use Rattle.typing_law.proofs.NodeKinds.{wrapped}
 use Rattle.typing_law.proofs.LiteralKinds.{Kind, AnInt, ABool, AText, ANull, kind_type, int_kind, bool_kind, text_kind, null_kind, widens, int_test, bool_test, text_test, null_test, widens_test, Fits, FoldFits, folded_widens}
@@ -262,22 +262,22 @@ module _ (env : Environment) (s : Scope) (classes : List CoreClass) (agree : (c 
   unary_sound at unary.Plus e f sound none =
       let b = breaks_none env s (Expr-F.Unary at unary.Plus e) none in
       gated (Some (denotes.Value ty.Int)) (list_all is_made (f ∷ [])) (unary_folded unary.Plus f) (λ made.
-      let t = value_sound e f sound b.below (and_l (is_made f) (list_all is_made []) made) in
+      let t = value_sound e f sound b.below (first_so (is_made f) (list_all is_made []) made) in
       (AnInt, refl, (sign_fits f (subst (FoldFits f) (int_of t.0 (wanted is_int e t.0 t.1 b.rule_11)) t.2)).0))
   unary_sound at unary.Minus e f sound none =
       let b = breaks_none env s (Expr-F.Unary at unary.Minus e) none in
       gated (Some (denotes.Value ty.Int)) (list_all is_made (f ∷ [])) (unary_folded unary.Minus f) (λ made.
-      let t = negated_sound e f sound b.below (and_l (is_made f) (list_all is_made []) made) in
+      let t = negated_sound e f sound b.below (first_so (is_made f) (list_all is_made []) made) in
       (AnInt, refl, (sign_fits f (subst (FoldFits f) (int_of t.0 (wanted is_int e t.0 t.1 b.rule_11)) t.2)).1))
   unary_sound at unary.Complement e f sound none =
       let b = breaks_none env s (Expr-F.Unary at unary.Complement e) none in
       gated (Some (denotes.Value ty.Int)) (list_all is_made (f ∷ [])) (unary_folded unary.Complement f) (λ made.
-      let t = value_sound e f sound b.below (and_l (is_made f) (list_all is_made []) made) in
+      let t = value_sound e f sound b.below (first_so (is_made f) (list_all is_made []) made) in
       (AnInt, refl, (sign_fits f (subst (FoldFits f) (int_of t.0 (wanted is_int e t.0 t.1 b.rule_11)) t.2)).2))
   unary_sound at unary.Not e f sound none =
       let b = breaks_none env s (Expr-F.Unary at unary.Not e) none in
       gated (Some (denotes.Value ty.Bool)) (list_all is_made (f ∷ [])) (unary_folded unary.Not f) (λ made.
-      let t = value_sound e f sound b.below (and_l (is_made f) (list_all is_made []) made) in
+      let t = value_sound e f sound b.below (first_so (is_made f) (list_all is_made []) made) in
       (ABool, refl, not_fits f (subst (FoldFits f) (bool_of t.0 (wanted is_boolean e t.0 t.1 b.rule_11)) t.2)))
 
   module _ (l r : Attr) (f g : Folded) where
@@ -287,8 +287,8 @@ module _ (env : Environment) (s : Scope) (classes : List CoreClass) (agree : (c 
     operands : Sound l f → Sound r g → value_faults l ++ value_faults r ≡ [] → list_all is_made (f ∷ g ∷ []) ≡ true → Operands
     operands sound_l sound_r none made =
         let parts = empty_parts (value_faults l) (value_faults r) none in
-        let more = and_r (is_made f) (list_all is_made (g ∷ [])) made in
-        (value_sound l f sound_l parts.0 (and_l (is_made f) (list_all is_made (g ∷ [])) made), value_sound r g sound_r parts.1 (and_l (is_made g) (list_all is_made []) more))
+        let more = second_so (is_made f) (list_all is_made (g ∷ [])) made in
+        (value_sound l f sound_l parts.0 (first_so (is_made f) (list_all is_made (g ∷ [])) made), value_sound r g sound_r parts.1 (first_so (is_made g) (list_all is_made []) more))
 
     both_ints : (t : Operands) → both_11 is_int l r ≡ [] → (t.0.0 ≡ AnInt) × (t.1.0 ≡ AnInt)
     both_ints t none =
@@ -403,11 +403,11 @@ module _ (env : Environment) (s : Scope) (classes : List CoreClass) (agree : (c 
       let below_both = empty_parts (value_faults a) (value_faults b) below.1 in
       let here = empty_parts (wants is_boolean c) (of_types (λ t u. unless (rules.is_either_way env.symbols t u) b.at) a b) none_of.rule_11 in
       gated (value (choice_type env.symbols (value_type a.denotes) (value_type b.denotes))) (list_all is_made (fc ∷ fa ∷ fb ∷ [])) (choice_folded fc fa fb) (λ made.
-      let made_rest = and_r (is_made fc) (list_all is_made (fa ∷ fb ∷ [])) made in
-      let made_last = and_r (is_made fa) (list_all is_made (fb ∷ [])) made_rest in
-      let t = value_sound c fc sound_c below.0 (and_l (is_made fc) (list_all is_made (fa ∷ fb ∷ [])) made) in
-      let u = value_sound a fa sound_a below_both.0 (and_l (is_made fa) (list_all is_made (fb ∷ [])) made_rest) in
-      let v = value_sound b fb sound_b below_both.1 (and_l (is_made fb) (list_all is_made []) made_last) in
+      let made_rest = second_so (is_made fc) (list_all is_made (fa ∷ fb ∷ [])) made in
+      let made_last = second_so (is_made fa) (list_all is_made (fb ∷ [])) made_rest in
+      let t = value_sound c fc sound_c below.0 (first_so (is_made fc) (list_all is_made (fa ∷ fb ∷ [])) made) in
+      let u = value_sound a fa sound_a below_both.0 (first_so (is_made fa) (list_all is_made (fb ∷ [])) made_rest) in
+      let v = value_sound b fb sound_b below_both.1 (first_so (is_made fb) (list_all is_made []) made_last) in
       let either : rules.is_either_way env.symbols (kind_type u.0) (kind_type v.0) ≡ true = unless_empty _ b.at (asked (λ t u. unless (rules.is_either_way env.symbols t u) b.at) a b u.0 v.0 u.1 v.1 here.1) in
       chosen u.0 v.0 u.1 v.1 (subst (FoldFits fc) (bool_of t.0 (wanted is_boolean c t.0 t.1 here.0)) t.2) u.2 v.2 either
       (widens u.0 v.0) refl (sym (ap (λ x. x || rules.is_assignable env.symbols (kind_type v.0) (kind_type u.0)) (widens_test env.symbols classes agree u.0 v.0) ∙ ap (λ x. widens u.0 v.0 || x) (widens_test env.symbols classes agree v.0 u.0)) ∙ either))
@@ -446,7 +446,7 @@ module _ (env : Environment) (s : Scope) (classes : List CoreClass) (agree : (c 
   paren_sound : (at : ℕ) (e : Attr) (f : Folded) → Sound e f → Sound (attr_at env s (Expr-F.Paren at e)) (folded_at env s (Expr-F.Paren at f))
   paren_sound at e f sound none =
       gated (value (value_type e.denotes)) (list_all is_made (f ∷ [])) f (λ made.
-      let t = value_sound e f sound (breaks_none env s (Expr-F.Paren at e) none).below (and_l (is_made f) (list_all is_made []) made) in
+      let t = value_sound e f sound (breaks_none env s (Expr-F.Paren at e) none).below (first_so (is_made f) (list_all is_made []) made) in
       (t.0, ap (λ d. value (value_type d)) t.1, t.2))
 
   field_sound : (o : Attr) (f : Ident) (fo : Folded) → Sound o fo → Sound (attr_at env s (Expr-F.Field o f)) (folded_at env s (Expr-F.Field fo f))

@@ -20,7 +20,7 @@ use Rattle.java_names.specs.Symbols.{maker_symbol, maker_symbols, maker_arities,
 use Rattle.java_names.specs.Types.{declared_type, declared_types}
 use Rattle.class_table.specs.declared.row.ClassRow.{ClassRow}
 use Rattle.java_exprs.specs.declared.environment.Environment.{Environment}
-use Rattle.java_types.specs.Files.{own_maker, of_members, of_made, is_maker, where_none}
+use Rattle.java_members.specs.Files.{own_maker, of_members, of_made, is_maker, where_none}
 use Rattle.std.proofs.lemmas.List.{length-map, length-append, append_assoc}
 use Rattle.core_tree.specs.WellTyped.{is_value}
 use Rattle.java_syntax.specs.declared.class.ClassTree.{ClassTree}
@@ -39,8 +39,8 @@ use Rattle.java_names.specs.Symbols as symbol_specs
 use Rattle.java_names.specs.declared.symbol.Makers.{Makers}
 use Rattle.primitive_operators.specs.declared.scalar.Scalar.{Scalar}
 use Rattle.java_exprs.specs.Lookups.{maker_of}
-use Rattle.java_types.specs.Bodies.{made_maker}
-use Rattle.java_types.specs.Declarations.{declaration_faults}
+use Rattle.java_members.specs.Bodies.{made_maker}
+use Rattle.java_members.specs.Declarations.{declaration_faults}
 use Rattle.typing_law.specs.Agrees.{AgreesOnMaker}
 use Rattle.typing_law.proofs.Tables.{row_at, numbers_at, env_with, program_with, class_symbol_at}
 use Rattle.typing_law.proofs.Numbered.{get_behind, not_built_in}

@@ -9,6 +9,7 @@ use Rattle.std.proofs.lemmas.Bool.{false≢true, or_left, or_right, and_from, eq
 use Rattle.std.proofs.lemmas.Cmp.{nat_list_eq_equiv}
 use Rattle.std.proofs.lemmas.List.{length-map}
 use Rattle.std.proofs.Math.Seq.{drop-append_seam}
+use Rattle.std.specs.Cmp.{first_so}
 use Rattle.core_tree.specs.declared.ty.Ty.{Ty}
 use Rattle.core_tree.specs.declared.ty.Ty.TheVariants as ty
 use Rattle.core_tree.specs.declared.stmt.Stmt.{Stmt as Step}
@@ -38,15 +39,14 @@ use Rattle.java_exprs.specs.Resolved.{cores, first_core}
 use Rattle.java_exprs.specs.Rules.{wants_type, wants_each}
 use Rattle.java_exprs.specs.Checks.{attr}
 use Rattle.java_statements.specs.Statements.{effect, again_10}
-use Rattle.java_types.specs.Declarations.{with_param, with_params, params_10, answer_10}
-use Rattle.java_types.specs.Bodies.{start_faults, field_faults, core_field, body_effects, method_effects, core_method, parent_11, parent_12, parent_13, parent_faults, parent_faults_of, built_in_parent, core_parent_of, core_parent, params_scope, given_of, maker_effects, maker_faults, core_maker, made_maker}
+use Rattle.java_members.specs.Declarations.{with_param, with_params, params_10, answer_10}
+use Rattle.java_members.specs.Bodies.{start_faults, field_faults, core_field, body_effects, method_effects, core_method, parent_11, parent_12, parent_13, parent_faults, parent_faults_of, built_in_parent, core_parent_of, core_parent, params_scope, given_of, maker_effects, maker_faults, core_maker, made_maker}
 use Rattle.java_names.specs.Beginnings.{beginning}
 use Rattle.typing_law.specs.Agrees.{Agrees, AgreesOnMaker, IsOfFile}
 use Rattle.typing_law.specs.Scopes.{IsKnown, GoesTo, FitsBody}
 use Rattle.typing_law.proofs.TypeFacts as facts
 use Rattle.typing_law.proofs.NoFaults.{empty_parts, empty_rule, unless_empty}
 use Rattle.typing_law.proofs.Values.{value_not_void}
-use Rattle.typing_law.proofs.Standing.{and_l}
 use Rattle.typing_law.proofs.Parts.{value_part}
 use Rattle.typing_law.proofs.Arguments.{AllHold, arguments_fit, fits_wanted}
 use Rattle.typing_law.proofs.Spelled.{declared_value}
@@ -97,7 +97,7 @@ module _ (env : Environment) (p : Program) (agrees : Agrees env p) where
     answer : cs.answer ≡ s.answer
     locals : cs.locals ≡ all
 
-  -- a body behind its parameters, which begins in the scope s
+  -- a body after its parameters, which begins in the scope s
   record BodyIsRight (s : Scope) (params : List ParamTree) (body : List Stmt) : Type 0 where
     known : IsKnown env p (with_params env params s)
     values : IsTrue (list_all (is_value p) (types_in params))
@@ -172,7 +172,7 @@ module _ (env : Environment) (p : Program) (agrees : Agrees env p) where
             no_length n e = omega arith
 
             one : (xs : List Attr) → IsTrue (fits p ty.Text (type_of p cs x.core) && all_fit p [] (map (type_of p cs) (cores xs))) → IsTrue (fits p ty.Text (type_of p cs x.core))
-            one xs both = and_l (fits p ty.Text (type_of p cs x.core)) (all_fit p [] (map (type_of p cs) (cores xs))) both
+            one xs both = first_so (fits p ty.Text (type_of p cs x.core)) (all_fit p [] (map (type_of p cs) (cores xs))) both
 
         cases : (object : Bool) → (b == 0) ≡ object → IsTrue (is_parent p cs b (if object then parent.Plain else parent.Message (first_core given)))
         cases true is = is

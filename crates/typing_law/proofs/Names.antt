@@ -4,6 +4,7 @@ use Rattle.std.specs.Prelude.{option_and_then, is_none, unwrap_or}
 use Rattle.std.specs.Option.{option_map_or}
 use Rattle.std.proofs.lemmas.Option.{none-some}
 use Rattle.std.proofs.lemmas.Bool.{false≢true, or_cases, and_from}
+use Rattle.std.specs.Cmp.{first_so, second_so}
 use denote.Hole.Carrier.{out, shown, hidden}
 use Rattle.core_tree.specs.declared.ty.Ty.{Ty}
 use Rattle.core_tree.specs.declared.ty.Ty.TheVariants as ty
@@ -44,7 +45,6 @@ use Rattle.typing_law.specs.Agrees.{Agrees, AgreesOnField, AgreesOnStatic, Agree
 use Rattle.typing_law.proofs.TypeFacts as facts
 use Rattle.typing_law.proofs.Values.{values_value, value_not_void}
 use Rattle.typing_law.proofs.NoFaults.{empty_parts, unless_empty, only_if_empty}
-use Rattle.typing_law.proofs.Standing.{and_l, and_r}
 use Rattle.typing_law.proofs.Nodes.{has_type, where_holds}
 use Rattle.typing_law.proofs.Arguments.{AllHold, arguments_fit}
 
@@ -87,7 +87,7 @@ module _ (p : Program) (s : CoreScope) where
   -- the value of a constant
   pub literal_right : (v : Scalar) (t : Ty) → IsTrue (is_literal_of v t) → IsTrue (is_value p t) → HasType p s (literal_core v) t
   literal_right (scalar.Int n) t is value =
-      has_type p s (core.Int n) t (type_of-Int p s n ∙ where_holds (is_int_number n) ty.Int (and_r (is_int t) (is_int_number n) is) ∙ ap Some (sym (facts.int_type t (and_l (is_int t) (is_int_number n) is)))) (values_value p t value)
+      has_type p s (core.Int n) t (type_of-Int p s n ∙ where_holds (is_int_number n) ty.Int (second_so (is_int t) (is_int_number n) is) ∙ ap Some (sym (facts.int_type t (first_so (is_int t) (is_int_number n) is)))) (values_value p t value)
   literal_right (scalar.Bool b) t is value = has_type p s (core.Bool b) t (type_of-Bool p s b ∙ ap Some (sym (facts.boolean_type t is))) (values_value p t value)
   literal_right (scalar.Text text) t is value = has_type p s (core.Text text) t (type_of-Text p s text ∙ ap Some (sym (facts.string_type t is))) (values_value p t value)
   literal_right scalar.Null t is value = record { actual = ty.Null; typed = type_of-Null p s; stands = inr (facts.string_type t is, refl); values = values_value p t value }

@@ -6,6 +6,7 @@ use Rattle.std.specs.Ordering.{int_eq}
 use Rattle.std.proofs.lemmas.Cmp.{int_eq_equiv}
 use Rattle.std.proofs.lemmas.Int.{int_wrap_fits, SFits-int_wrap}
 use Rattle.std.proofs.lemmas.Bool.{false≢true, and_from}
+use Rattle.std.specs.Cmp.{first_so}
 use Rattle.pb_int.specs.Int32.{wrap}
 use Rattle.core_tree.specs.declared.ty.Ty.{Ty}
 use Rattle.core_tree.specs.declared.ty.Ty.TheVariants as ty
@@ -53,7 +54,7 @@ use Rattle.typing_law.proofs.Types.{same_assignable}
 use Rattle.typing_law.proofs.TypeFacts as facts
 use Rattle.typing_law.proofs.Values.{values_null, values_value, class_value, element_values, value_not_void}
 use Rattle.typing_law.proofs.NoFaults.{empty_parts, unless_empty, only_if_empty, no_place}
-use Rattle.typing_law.proofs.Standing.{and_l, exact, has_exact}
+use Rattle.typing_law.proofs.Standing.{exact, has_exact}
 use Rattle.typing_law.proofs.Parts.{Holds, IsValue, value_part, right_part, wanted}
 use Rattle.typing_law.proofs.Nodes.{breaks_none, has_type, has_type_int, has_type_bool, has_type_text, where_holds}
 use Rattle.typing_law.proofs.Arguments.{AllHold, arguments_fit}
@@ -107,7 +108,7 @@ module _ (env : Environment) (p : Program) (agrees : Agrees env p) (s : Scope) (
   class_means x (Some c) known = tt
   class_means x None known = subst (λ b. Means p cs core.Null (if b then Some denotes.System else None)) (sym known) tt
 
-  -- a name that is no local
+  -- a name that isn't a local
   member_name : (x : Ident) (m : Option FieldSymbol) → member_of env s.class x.name ≡ m → (is_some m || (is_some (class_named env x.name) || same_name x.name system_name)) ≡ true →
       only_if (s.is_static && (true && option_map_or (λ m. is_some m.place) m false)) x.at ≡ [] →
       names.NameIsRight env p agrees s cs inside
@@ -277,7 +278,7 @@ module _ (env : Environment) (p : Program) (agrees : Agrees env p) (s : Scope) (
   one_length n e = omega arith
 
   and_true : (b : Bool) → IsTrue (b && true) → IsTrue b
-  and_true b is = and_l b true is
+  and_true b is = first_so b true is
 
   -- the message of a new object of a built-in class
   message_fits : (c : ℕ) (xs : List Attr) (params : List Ty) → length params ≡ length xs → IsTrue (all_fit p params (map (type_of p cs) (cores xs))) → (params ≡ []) ⊎ ((params ≡ ty.Text ∷ []) × IsTrue (not (c == 0))) →

@@ -13,12 +13,6 @@ use Rattle.java_exprs.specs.Rules.{is_printed}
 use Rattle.typing_law.specs.Means.{StandsFor, HasType}
 use Rattle.typing_law.proofs.TypeFacts as type
 
-pub and_l : (a b : Bool) → IsTrue (a && b) → IsTrue a
-and_l a b both = (and_parts a b both).0
-
-pub and_r : (a b : Bool) → IsTrue (a && b) → IsTrue b
-and_r a b both = (and_parts a b both).1
-
 -- a test that no String passes
 pub stands_exact : (test : Ty → Bool) (a t : Ty) → test ty.Text ≡ false → StandsFor a t → IsTrue (test t) → a ≡ t
 stands_exact test a t no_text stands is = ⊎_elim (λ same. same) (λ null. absurd (false≢true (sym no_text ∙ ap test (sym null.0) ∙ is))) stands

@@ -28,7 +28,7 @@ use Rattle.java_names.specs.Symbols.{class_symbol, class_symbols, names_of, symb
 use Rattle.java_exprs.specs.declared.environment.Environment.{Environment}
 use Rattle.primitive_operators.specs.declared.scalar.Scalar.{Scalar}
 use Rattle.java_exprs.specs.Lookups.{superclass_of, class_named}
-use Rattle.java_types.specs.Files.{core_class, core_classes, program_in}
+use Rattle.java_members.specs.Files.{core_class, core_classes, program_in}
 
 -- ---- places
 
@@ -81,7 +81,7 @@ climb_short parents zero c = omega arith
 climb_short parents (suc n) None = omega arith
 climb_short parents (suc n) (Some c) = let shorter = climb_short parents n (parent_in parents c) in omega arith
 
--- a line is no longer than there are classes
+-- a line isn't longer than there are classes
 pub line_short : (declared : List Declaration) (c : ℕ) (row : ClassRow) → slice_get (rows_from declared 0 declared) c ≡ Some row → length row.line ≤ length declared
 line_short declared c row is = of_found (slice_get declared c) refl (sym (row_at declared 0 declared c) ∙ is)
   where

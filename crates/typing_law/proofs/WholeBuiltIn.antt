@@ -18,8 +18,8 @@ use Rattle.class_table.specs.Table.{row_of, table_of}
 use Rattle.class_table.specs.TableFacts.{IsTable}
 use Rattle.java_exprs.specs.declared.environment.Environment.{Environment}
 use Rattle.primitive_operators.specs.declared.scalar.Scalar.{Scalar}
-use Rattle.java_types.specs.Declarations.{declaration_faults}
-use Rattle.java_types.specs.Files.{of_members, core_classes, fields_of, all_own_fields}
+use Rattle.java_members.specs.Declarations.{declaration_faults}
+use Rattle.java_members.specs.Files.{of_members, core_classes, fields_of, all_own_fields}
 use Rattle.typing_law.proofs.Tables.{env_with, program_with}
 use Rattle.typing_law.proofs.WholeFields.{fields_along_line}
 

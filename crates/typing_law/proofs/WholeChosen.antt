@@ -8,6 +8,7 @@ use Rattle.std.proofs.lemmas.Option.{same_Some}
 use Rattle.std.proofs.lemmas.Bool.{false≢true, and_from, eqb-true}
 use Rattle.std.proofs.lemmas.List.Folds.{list_all-map}
 use Rattle.std.proofs.lemmas.List.Quantifiers.{position-Some}
+use Rattle.std.specs.Cmp.{second_so}
 use Rattle.core_tree.specs.declared.program.Program.{Program}
 use Rattle.core_tree.specs.Types.{is_string, is_subclass}
 use Rattle.core_tree.specs.Typing.{is_throwable}
@@ -28,9 +29,8 @@ use Rattle.java_names.specs.Lookups.{is_below, line_of, nearest}
 use Rattle.java_names.specs.Selectors.{same_selector, selector_of, message_selector}
 use Rattle.java_names.specs.Types.{answer_type, declared_types}
 use Rattle.primitive_operators.specs.declared.scalar.Scalar.{Scalar}
-use Rattle.java_types.specs.Declarations.{declaration_faults}
-use Rattle.java_types.specs.Files.{of_members, core_class}
-use Rattle.typing_law.proofs.Standing.{and_r}
+use Rattle.java_members.specs.Declarations.{declaration_faults}
+use Rattle.java_members.specs.Files.{of_members, core_class}
 use Rattle.typing_law.proofs.TypeFacts as facts
 use Rattle.typing_law.proofs.Tables.{env_with, program_with, same_below}
 use Rattle.typing_law.proofs.FileMethods.{all_names, all_selectors, nearest_in, symbols}
@@ -179,7 +179,7 @@ module _ (tree : FileTree) (constants : List (ℕ × Option Scalar)) (none : of_
       let under = messages.below_throwable tree constants none is_table short clear c row d found.picked.least is (subst (λ l. IsTrue (list_any (λ a. a == d) l)) line found.below) (subst (λ l. IsTrue (list_any (λ a. a == 1) l)) line below) in
       let same_row : under.0 ≡ found.picked.row = same_Some _ _ (sym under.1 ∙ found.picked.is_row) in
       let answer = messages.overrides tree constants none is_table short clear d found.picked.row found.picked.found.place y found.picked.least found.picked.is_row (subst (λ r. IsTrue (list_any (λ a. a == 1) r.line)) same_row under.2) found.picked.found.is_row same in
-      let arity : length y.params ≡ 0 = eqb-true (length y.params) 0 (and_r (same_name y.name message_selector.name) (nat_eq (length y.params) 0) same) in
+      let arity : length y.params ≡ 0 = eqb-true (length y.params) 0 (second_so (same_name y.name message_selector.name) (nat_eq (length y.params) 0) same) in
       let method = found.picked.program.method in
       let params : method.params ≡ [] = found.picked.program.is.params ∙ ap (declared_types (all_names tree constants none)) (no_params y.params arity) in
       ap is_message_method found.picked.program.found

@@ -25,8 +25,8 @@ use Rattle.class_table.specs.Table.{row_of, table_of}
 use Rattle.class_table.specs.TableFacts.{IsTable, line_above}
 use Rattle.java_names.specs.Lookups.{is_below}
 use Rattle.primitive_operators.specs.declared.scalar.Scalar.{Scalar}
-use Rattle.java_types.specs.Declarations.{declaration_faults}
-use Rattle.java_types.specs.Files.{of_members, core_class}
+use Rattle.java_members.specs.Declarations.{declaration_faults}
+use Rattle.java_members.specs.Files.{of_members, core_class}
 use Rattle.typing_law.specs.Agrees.{IsOfFile}
 use Rattle.typing_law.proofs.Numbered.{not_built_in}
 use Rattle.typing_law.proofs.Tables.{row_at, env_with, program_with, length_core, class_core_at, same_superclass, same_below}

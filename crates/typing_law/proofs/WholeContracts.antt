@@ -12,8 +12,8 @@ use Rattle.java_syntax.specs.declared.class.FileTree.{FileTree}
 use Rattle.class_table.specs.Table.{table_of}
 use Rattle.java_exprs.specs.declared.environment.Environment.{Environment}
 use Rattle.primitive_operators.specs.declared.scalar.Scalar.{Scalar}
-use Rattle.java_types.specs.Bodies.{core_method}
-use Rattle.java_types.specs.Files.{own_method}
+use Rattle.java_members.specs.Bodies.{core_method}
+use Rattle.java_members.specs.Files.{own_method}
 use Rattle.typing_law.proofs.Tables.{env_with, program_with}
 use Rattle.typing_law.proofs.WholeLists.{all_members}
 

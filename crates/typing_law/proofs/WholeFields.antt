@@ -1,4 +1,5 @@
--- The fields of a file's classes in its program: those of the superclass come first, they are few, and each is well typed.
+-- The fields of a file's classes in its program: those of the superclass come first, they are few, and each is well
+-- typed.
 use Rattle.std.proofs.Common.{◌≡◌, ◌∙◌, ℕ, zero, suc, ◌+◌, ◌≤◌, Bool, true, false, ◌&&◌, ◌==◌, IsTrue, List, [], ◌∷◌, ◌++◌, length, map, take, reverse, Option, Some, None, option_map, slice_get, refl, subst, sym, ap, arith, if◌then◌else◌}
 use Rattle.std.specs.Prelude.{filter, nat_le, option_and_then, unwrap_or}
 use Rattle.std.specs.List.{flat_map, list_all, list_any}
@@ -29,9 +30,9 @@ use Rattle.java_names.specs.Types.{declared_type}
 use Rattle.java_exprs.specs.declared.environment.Environment.{Environment}
 use Rattle.primitive_operators.specs.declared.scalar.Scalar.{Scalar}
 use Rattle.java_exprs.specs.Lookups.{unknown_type}
-use Rattle.java_types.specs.Bodies.{core_field, field_faults}
-use Rattle.java_types.specs.Declarations.{declaration_faults}
-use Rattle.java_types.specs.Files.{of_members, member_faults, core_class, fields_of, own_field, all_own_fields}
+use Rattle.java_members.specs.Bodies.{core_field, field_faults}
+use Rattle.java_members.specs.Declarations.{declaration_faults}
+use Rattle.java_members.specs.Files.{of_members, member_faults, core_class, fields_of, own_field, all_own_fields}
 use Rattle.typing_law.specs.Agrees.{Agrees, IsOfFile}
 use Rattle.typing_law.specs.Starts.{start_fits}
 use Rattle.typing_law.proofs.Members.{start_right}

@@ -9,6 +9,7 @@ use Rattle.std.proofs.lemmas.Bool.{false≢true, eqb-true, and_from}
 use Rattle.std.proofs.lemmas.List.{map-append}
 use Rattle.std.proofs.lemmas.List.Folds.{list_any-append}
 use Rattle.std.proofs.lemmas.List.Quantifiers.{position-Some}
+use Rattle.std.specs.Cmp.{first_so, second_so}
 use Rattle.core_tree.specs.declared.ty.Ty.TheVariants as ty
 use Rattle.core_tree.specs.declared.ty.Ty.TheViews as type
 use Rattle.core_tree.specs.declared.program.Method.{Method}
@@ -35,11 +36,10 @@ use Rattle.class_table.specs.Table.{table_of}
 use Rattle.java_names.specs.Types.{arrays, base_type, declared_types, named_type}
 use Rattle.java_exprs.specs.declared.environment.Environment.{Environment}
 use Rattle.primitive_operators.specs.declared.scalar.Scalar.{Scalar}
-use Rattle.java_types.specs.Bodies.{core_method}
-use Rattle.java_types.specs.Files.{of_members, own_method, method_tree, method_trees}
+use Rattle.java_members.specs.Bodies.{core_method}
+use Rattle.java_members.specs.Files.{of_members, own_method, method_tree, method_trees}
 use Rattle.java_names.proofs.NumberingLemmas.{is_some-position}
 use Rattle.typing_law.proofs.SameTypes.{same_refl}
-use Rattle.typing_law.proofs.Standing.{and_l, and_r}
 use Rattle.typing_law.proofs.Tables.{env_with, program_with}
 use Rattle.typing_law.proofs.FileMakers.{found_by}
 
@@ -138,8 +138,8 @@ string_array : (names : List Name) (types : List TypeTree) → is_string_array t
 string_array names [] is = absurd (false≢true is)
 string_array names (t ∷ u ∷ more) is = absurd (false≢true is)
 string_array names (t ∷ []) is =
-    let dimensions = eqb-true t.dimensions 1 (and_r (rules.is_string t.base) (t.dimensions == 1) is) in
-    ap (λ b. unwrap_or (option_map (arrays t.dimensions) b) ty.Void ∷ []) (string_base names t.base (and_l (rules.is_string t.base) (t.dimensions == 1) is))
+    let dimensions = eqb-true t.dimensions 1 (second_so (rules.is_string t.base) (t.dimensions == 1) is) in
+    ap (λ b. unwrap_or (option_map (arrays t.dimensions) b) ty.Void ∷ []) (string_base names t.base (first_so (rules.is_string t.base) (t.dimensions == 1) is))
     ∙ ap (λ n. arrays n ty.Text ∷ []) dimensions
 
 module _ (tree : FileTree) (constants : List (ℕ × Option Scalar)) (clear : Clear (Breaks tree)) where
@@ -160,8 +160,8 @@ module _ (tree : FileTree) (constants : List (ℕ × Option Scalar)) (clear : Cl
       let b = is_static row.mods in
       let d = is_none row.answer in
       let e = is_string_array row.params in
-      let array = string_array env.symbols.names row.params (and_r ((a && b) && d) e is) in
-      let static = and_r a b (and_l (a && b) d (and_l ((a && b) && d) e is)) in
+      let array = string_array env.symbols.names row.params (second_so ((a && b) && d) e is) in
+      let static = second_so a b (first_so (a && b) d (first_so ((a && b) && d) e is)) in
       and_from (not (not (is_static m.mods))) (same_types (declared_types env.symbols.names (types_of m.params)) (type.Array ty.Text ∷ []))
       (ap (λ s. not (not s)) static)
       (ap (λ ts. same_types ts (type.Array ty.Text ∷ [])) array ∙ and_from (is_same_type (ty.Array ty.Text) (type.Array ty.Text)) true (same_refl (ty.Array ty.Text)) refl)

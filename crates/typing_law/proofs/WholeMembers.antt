@@ -20,10 +20,10 @@ use Rattle.java_exprs.specs.declared.environment.Environment.{Environment}
 use Rattle.primitive_operators.specs.declared.scalar.Scalar.{Scalar}
 use Rattle.java_exprs.specs.Lookups.{unknown_type}
 use Rattle.java_statements.specs.Statements.{again_10, exception_10}
-use Rattle.java_types.specs.Bodies.{core_method, core_maker, made_maker}
-use Rattle.java_types.specs.Declarations.{answer_10, declaration_faults, params_10, with_param}
+use Rattle.java_members.specs.Bodies.{core_method, core_maker, made_maker}
+use Rattle.java_members.specs.Declarations.{answer_10, declaration_faults, params_10, with_param}
 use Rattle.java_names.specs.Scope.{maker_scope, method_scope}
-use Rattle.java_types.specs.Files.{of_members, of_made, is_maker, where_none, member_faults, made_faults, own_method, own_maker}
+use Rattle.java_members.specs.Files.{of_members, of_made, is_maker, where_none, member_faults, made_faults, own_method, own_maker}
 use Rattle.typing_law.specs.Agrees.{Agrees, IsOfFile}
 use Rattle.typing_law.proofs.Members.{method_right, maker_right, made_right}
 use Rattle.typing_law.proofs.NoFaults.{empty_parts}

@@ -7,6 +7,7 @@ use Rattle.std.specs.Option.{option_map_or}
 use Rattle.std.specs.Cmp.Lexicographic.{same_text}
 use Rattle.std.proofs.lemmas.Option.{none-some, same_Some}
 use Rattle.std.proofs.lemmas.Bool.{false≢true, and_from, eqb-true, or_left, or_right}
+use Rattle.std.specs.Cmp.{first_so, second_so}
 use Rattle.core_tree.specs.declared.ty.Ty.{Ty}
 use Rattle.core_tree.specs.declared.ty.Ty.TheVariants as ty
 use Rattle.core_tree.specs.declared.program.Method.{Method}
@@ -33,7 +34,6 @@ use Rattle.class_table.specs.Table.{row_of, table_of}
 use Rattle.java_names.specs.Selectors.{same_selector, selector_of}
 use Rattle.java_names.specs.Types.{answer_type, arrays, base_type, declared_type, declared_types, named_type}
 use Rattle.typing_law.proofs.SameTypes.{same_refl}
-use Rattle.typing_law.proofs.Standing.{and_l, and_r}
 use Rattle.typing_law.proofs.Tables.{row_at}
 use Rattle.typing_law.proofs.FileMakers.{found_by}
 
@@ -53,16 +53,16 @@ module _ (names : List Name) where
 
   same_declared : (a b : TypeTree) → same_type a b ≡ true → declared_type names a ≡ declared_type names b
   same_declared a b same =
-      ap (λ n. unwrap_or (option_map (arrays n) (base_type names a.base)) ty.Void) (eqb-true a.dimensions b.dimensions (and_r (same_base a.base b.base) (a.dimensions == b.dimensions) same))
-      ∙ ap (λ t. unwrap_or (option_map (arrays b.dimensions) t) ty.Void) (same_bases a.base b.base (and_l (same_base a.base b.base) (a.dimensions == b.dimensions) same))
+      ap (λ n. unwrap_or (option_map (arrays n) (base_type names a.base)) ty.Void) (eqb-true a.dimensions b.dimensions (second_so (same_base a.base b.base) (a.dimensions == b.dimensions) same))
+      ∙ ap (λ t. unwrap_or (option_map (arrays b.dimensions) t) ty.Void) (same_bases a.base b.base (first_so (same_base a.base b.base) (a.dimensions == b.dimensions) same))
 
   pub same_params : (xs ys : List TypeTree) → same_types xs ys ≡ true → declared_types names xs ≡ declared_types names ys
   same_params [] [] same = refl
   same_params [] (y ∷ ys) same = absurd (false≢true same)
   same_params (x ∷ xs) [] same = absurd (false≢true same)
   same_params (x ∷ xs) (y ∷ ys) same =
-      ap (λ t. t ∷ declared_types names xs) (same_declared x y (and_l (same_type x y) (same_types xs ys) same))
-      ∙ ap (λ ts. declared_type names y ∷ ts) (same_params xs ys (and_r (same_type x y) (same_types xs ys) same))
+      ap (λ t. t ∷ declared_types names xs) (same_declared x y (first_so (same_type x y) (same_types xs ys) same))
+      ∙ ap (λ ts. declared_type names y ∷ ts) (same_params xs ys (second_so (same_type x y) (same_types xs ys) same))
 
   pub same_answers : (a b : Option TypeTree) → same_answer a b ≡ true → answer_type names a ≡ answer_type names b
   same_answers None None same = refl
@@ -175,11 +175,11 @@ module _ (tree : FileTree) (clear : Clear (Breaks tree)) where
           let k4 = beq (is_static y.mods) (is_static a.mods) in
           let k5 = not (is_private y.mods) in
           let k6 = list_all (is_allowed names declared a.throws) y.throws in
-          let front = and_l (((k1 && k2) && k3) && k4) k5 (and_l ((((k1 && k2) && k3) && k4) && k5) k6 is) in
-          let three = and_l ((k1 && k2) && k3) k4 front in
-          let params = and_r k1 k2 (and_l (k1 && k2) k3 three) in
-          let answer = and_r (k1 && k2) k3 three in
+          let front = first_so (((k1 && k2) && k3) && k4) k5 (first_so ((((k1 && k2) && k3) && k4) && k5) k6 is) in
+          let three = first_so ((k1 && k2) && k3) k4 front in
+          let params = second_so k1 k2 (first_so (k1 && k2) k3 three) in
+          let answer = second_so (k1 && k2) k3 three in
           record {
-            static = and_r ((k1 && k2) && k3) k4 front;
+            static = second_so ((k1 && k2) && k3) k4 front;
             types = λ names. (same_params names y.params a.params params, same_answers names y.answer a.answer answer);
           }

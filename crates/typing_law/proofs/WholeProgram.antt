@@ -16,8 +16,8 @@ use Rattle.class_table.specs.Rules.{Breaks}
 use Rattle.class_table.specs.Table.{table_of}
 use Rattle.class_table.specs.TableFacts.{IsTable}
 use Rattle.primitive_operators.specs.declared.scalar.Scalar.{Scalar}
-use Rattle.java_types.specs.Declarations.{declaration_faults}
-use Rattle.java_types.specs.Files.{of_members, of_made, member_faults, made_faults, core_class, declared_faults, body_faults, then_faults, faults_of, env_of, reading_of, program_of}
+use Rattle.java_members.specs.Declarations.{declaration_faults}
+use Rattle.java_members.specs.Files.{of_members, of_made, member_faults, made_faults, core_class, declared_faults, body_faults, then_faults, faults_of, env_of, reading_of, program_of}
 use Rattle.typing_law.specs.Agrees.{Agrees}
 use Rattle.token_law.specs.Tokens.{HasOwnTokens}
 use Rattle.typing_law.proofs.FileAgrees.{file_agrees, short_lines}

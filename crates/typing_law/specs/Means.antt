@@ -13,8 +13,8 @@ use Rattle.java_exprs.specs.declared.typed.Form.{Form}
 use Rattle.java_exprs.specs.declared.typed.Form.TheVariants as form
 use Rattle.java_exprs.specs.Attr.{Attr}
 
--- a value of the first type stands for one of the second: it is the same type, or null for a String, since a constant of
--- type String may be null
+-- a value of the first type stands for one of the second: it is the same type, or null for a String, since a constant
+-- of type String may be null
 abbrev pub StandsFor : Ty → Ty → Type 0
 StandsFor actual t = (actual ≡ t) ⊎ ((t ≡ ty.Text) × (actual ≡ ty.Null))
 

@@ -9,5 +9,4 @@ returns-in_err-check-clause-fault c =
 
 pub returns-clause-typed : goal.returns-clause-typed
 returns-clause-typed c = λ tokens spelled.
-    rw (c.in_ok-program.ensures.program, c.in_ok-table.ensures.table)
-    (c.programs_are_typed.ensures c.args.tree.now tokens spelled (rw c.in_ok-table.ensures.table at c.in_ok-table.ensures.facts) c.in_ok-table.ensures.accepted (rw c.in_ok-table.ensures.table at c.in_ok-program.ensures.clear))
+    c.in_ok-program.ensures.typed tokens spelled c.in_ok-table.ensures.table c.in_ok-table.ensures.facts c.in_ok-table.ensures.accepted

@@ -1,7 +1,8 @@
 //! The rows of the class table.
 
-ghost use Rattle.std.specs.Prelude.{◌≡◌, ◌≤◌, flat_map, length};
+ghost use Rattle.std.specs.Prelude.{◌≡◌, ◌≤◌, flat_map, length, map};
 ghost use Rattle.class_table.specs.Names.{number_of};
+ghost use Rattle.class_table.specs.TableFacts.{IsTable};
 
 use crate::keys::Keys;
 use core_tree::Shared;
@@ -129,13 +130,12 @@ pub struct ClassTable {
 
 impl ClassTable {
     /// The number of the class of that name, counted from 0, or `None` where no class has it (JLS 6.3). It takes no
-    /// memory.
+    /// memory. What is promised is promised of every table that `table` gives.
     pub fn find(&self, name: &Name) -> Option<u32>
-        requires { length self.now.names ≤ 1018 }
-        ensures { result ≡ number_of self.now.names name.now }
+        ensures { IsTable self.now → result ≡ number_of (map (λ row. row.name) self.now.classes) name.now }
     {
         match self.names.number(name) {
-            Some(number) => Some(number as u32),
+            Some(number) => u32::try_from(number).ok(),
             None => None,
         }
     }

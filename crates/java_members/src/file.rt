@@ -19,8 +19,9 @@ use java_syntax::{CheckError, FileTree};
 use sqlite_items::Items;
 use std::alloc::{AllocError, Global};
 
-// What is known before the constants are read.
-fn first_environment(
+/// What is known of a file, given the table of its classes, before its constants are read. `AllocError` where memory runs
+/// out.
+pub fn environment(
     alloc: Global,
     table: &ClassTable,
     tree: &FileTree,
@@ -58,24 +59,26 @@ fn program(
     })
 }
 
-/// The resolved program of a file, given the table of its classes (JLS 6, 8, 14, 15). `java_types` adds that it is well
-/// typed.
+/// The resolved program of a file (JLS 6, 8, 14, 15), given the table of its classes and what is known of it before its
+/// constants are read, to which these are added. `java_types` adds that the program is well typed.
 ///
 /// # Errors
-/// `Fault` with the number of a rule of 10 to 21 and the number of a token, counted from 0, at which that rule is
-/// broken: any one of them where several are, but of declarations alone where one of these breaks a rule. `OutOfMemory`
-/// where there is no memory left.
+/// `Fault` with the number of a rule of 10 to 21 and the number of a token, counted from 0, at which that rule is broken:
+/// any one of them where several are, but of declarations alone where one of these breaks a rule. `OutOfMemory` where
+/// memory runs out.
 pub fn resolve_file(
     alloc: Global,
+    env: &mut Environment,
     table: &ClassTable,
     tree: &FileTree,
 ) -> Result<Program, CheckError>
+    requires { env.old ≡ spec.first_env table.now tree.now }
     ensures program { IfOk result (λ program. program ≡ spec.program_of table.now tree.now) }
     ensures clear { OnOk result (spec.faults_of table.now tree.now ≡ []) }
+    ensures symbols { OnOk result (env.new.symbols ≡ env.old.symbols) }
     ensures fault { IfErr result (Refuses (spec.faults_of table.now tree.now)) }
 {
-    let mut env = first_environment(alloc, table, tree)?;
-    check_declarations(alloc, &env, tree.classes.as_slice())?;
-    read_constants(alloc, &mut env, tree.classes.as_slice())?;
-    program(alloc, &env, table, tree)
+    check_declarations(alloc, env, tree.classes.as_slice())?;
+    read_constants(alloc, env, tree.classes.as_slice())?;
+    program(alloc, env, table, tree)
 }

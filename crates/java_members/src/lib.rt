@@ -20,4 +20,4 @@ mod slots;
 mod superclass;
 mod types;
 
-pub use file::resolve_file;
+pub use file::{environment, resolve_file};

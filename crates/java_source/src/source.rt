@@ -13,12 +13,13 @@ use crate::place::{place_of, stopped_at};
 use crate::{SourceError, SourceRefusal};
 use class_table::table;
 use core_tree::Program;
+use java_members::environment;
 use java_parse::{ParseError, parse};
 use java_syntax::{CheckError, Fault, FileTree};
 use java_tokens::{Token, tokens};
-use java_types::resolve;
+use java_types::resolve_in;
 use std::alloc::Global;
-use throw_check::check;
+use throw_check::check_file;
 
 /// The bytes of the longest source.
 pub const MOST_BYTES: usize = 1_048_576;
@@ -57,8 +58,9 @@ fn checked(alloc: Global, tree: &FileTree) -> Result<Program, CheckError>
     ensures fault { IfErr result (Blames (IsBroken tree.now)) }
 {
     let table = table(alloc, tree)?;
-    let program = resolve(alloc, &table, tree)?;
-    check(alloc, &table, tree)?;
+    let mut env = environment(alloc, &table, tree)?;
+    let program = resolve_in(alloc, &mut env, &table, tree)?;
+    check_file(alloc, &env.symbols, tree)?;
     Ok(program)
 }
 

@@ -1,4 +1,4 @@
-//! The public call.
+//! The public calls.
 
 ghost use Rattle.std.specs.Prelude.{◌≡◌, List, [], IfErr, IfOk, OnOk};
 ghost use Rattle.core_tree.specs.WellTyped.{IsWellTyped};
@@ -8,12 +8,13 @@ ghost use Rattle.class_table.specs.Faults.{Clear};
 ghost use Rattle.class_table.specs.Rules.{Breaks};
 ghost use Rattle.class_table.specs.Table.{table_of};
 ghost use Rattle.class_table.specs.TableFacts.{IsTable};
-ghost use Rattle.java_exprs.specs.Checks.{Refuses};
-ghost use Rattle.java_members.specs.Files.{faults_of, program_of};
+ghost use Rattle.java_names.specs.Refusals.{Refuses};
+ghost use Rattle.java_members.specs.Files.{faults_of, first_env, program_of};
 
 use class_table::ClassTable;
 use core_tree::Program;
-use java_members::resolve_file;
+use java_exprs::Environment;
+use java_members::{environment, resolve_file};
 use java_syntax::{CheckError, FileTree};
 use std::alloc::Global;
 use typing_law::programs_are_typed;
@@ -32,6 +33,28 @@ pub fn resolve(alloc: Global, table: &ClassTable, tree: &FileTree) -> Result<Pro
         → Clear (Breaks tree.now) → IfOk result IsWellTyped }
     ensures fault { IfErr result (Refuses (faults_of table.now tree.now)) }
 {
+    let mut env = environment(alloc, table, tree)?;
+    resolve_in(alloc, &mut env, table, tree)
+}
+
+/// The same, given what is known of the file before its constants are read. These are added to it, and its symbols stay.
+///
+/// # Errors
+/// Those of `resolve`.
+pub fn resolve_in(
+    alloc: Global,
+    env: &mut Environment,
+    table: &ClassTable,
+    tree: &FileTree,
+) -> Result<Program, CheckError>
+    requires { env.old ≡ first_env table.now tree.now }
+    ensures program { IfOk result (λ program. program ≡ program_of table.now tree.now) }
+    ensures clear { OnOk result (faults_of table.now tree.now ≡ []) }
+    ensures typed { (tokens : List Token) → Spells tree.now tokens → table.now ≡ table_of tree.now → IsTable table.now
+        → Clear (Breaks tree.now) → IfOk result IsWellTyped }
+    ensures symbols { OnOk result (env.new.symbols ≡ env.old.symbols) }
+    ensures fault { IfErr result (Refuses (faults_of table.now tree.now)) }
+{
     programs_are_typed();
-    resolve_file(alloc, table, tree)
+    resolve_file(alloc, env, table, tree)
 }

@@ -119,5 +119,15 @@ pub fn check(alloc: Global, table: &ClassTable, tree: &FileTree) -> Result<(), C
     ensures { Allows (faults_of table.now tree.now) result }
 {
     let symbols = symbols(alloc, table)?;
-    classes(alloc, &symbols, tree.classes.as_slice())
+    check_file(alloc, &symbols, tree)
+}
+
+/// The same, given the symbols of the table.
+///
+/// # Errors
+/// Those of `check`.
+pub fn check_file(alloc: Global, symbols: &Symbols, tree: &FileTree) -> Result<(), CheckError>
+    ensures { Allows (faults_from symbols.now first_class tree.now.classes) result }
+{
+    classes(alloc, symbols, tree.classes.as_slice())
 }

@@ -20,4 +20,4 @@ mod loops;
 mod statements;
 mod tries;
 
-pub use file::check;
+pub use file::{check, check_file};

@@ -1,5 +1,5 @@
 use Rattle.java_types.proofs.TypedLemmas.{typed_of}
-use Rattle.java_types.proofs.file.resolve.Goals as goal
+use Rattle.java_types.proofs.file.resolve_in.Goals as goal
 
 pub returns-clause-typed : goal.returns-clause-typed
 returns-clause-typed c = λ tokens spelled is facts clear.

@@ -9,9 +9,9 @@ use crate::operators::{binary, conditional, paren, unary};
 use crate::texts::text;
 use java_exprs::literals::{GREATEST, int_of};
 use java_exprs::{Environment, Folded};
-use primitive_operators::Scalar;
 use java_names::{FieldSymbol, Meaning, Scope};
 use java_syntax::{Expr, Ident};
+use primitive_operators::Scalar;
 use std::alloc::{AllocError, Global};
 
 // A number.

@@ -5,8 +5,8 @@ ghost use Rattle.java_exprs.specs.Operators as operators;
 
 use crate::values::{binary_value, unary_value};
 use java_exprs::Folded;
-use primitive_operators::Scalar;
 use java_syntax::{BinaryOp, UnaryOp};
+use primitive_operators::Scalar;
 use std::alloc::{AllocError, Global};
 
 // Whether an initialiser may have this part.

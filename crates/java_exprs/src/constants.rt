@@ -1,5 +1,5 @@
-use primitive_operators::Scalar;
 use indexmap::IndexMap;
+use primitive_operators::Scalar;
 use std::alloc::{AllocError, Global};
 use std::marker::Model;
 

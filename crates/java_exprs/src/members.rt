@@ -15,13 +15,13 @@ ghost use Rattle.java_exprs.specs.Rules as rule;
 use crate::environment::Environment;
 use crate::fault::fault;
 use crate::forms::is_void;
-use primitive_operators::Scalar;
 use crate::receiver::Receiver;
 use crate::through::Through;
 use crate::typed::{Denotation, Form, Typed};
 use core_tree::{Expr, Ty};
 use java_names::{FieldSymbol, Scope, is_accessible};
 use java_syntax::{CheckError, Ident};
+use primitive_operators::Scalar;
 use sqlite_items::Boxed;
 use std::alloc::Global;
 

@@ -18,8 +18,8 @@ use java_exprs::arguments::fit;
 use java_exprs::expression::value;
 use java_exprs::fault::fault;
 use java_exprs::{Environment, Folded};
-use primitive_operators::Scalar;
 use java_syntax::{CheckError, ClassTree, Expr, FieldTree, Member};
+use primitive_operators::Scalar;
 use std::alloc::Global;
 
 // The value of a constant whose name is token number `at` and whose initialiser this is; `None` where the initialiser has

@@ -2,8 +2,8 @@ ghost use Rattle.std.specs.Prelude.{◌≡◌};
 ghost use Rattle.primitive_operators.specs.declared.scalar.Scalar.TheVariants as scalar;
 ghost use Rattle.primitive_operators.specs.Operators.{bool_value, equality_value, unary_value};
 
-use crate::applied::boolean;
 use crate::Applied;
+use crate::applied::boolean;
 use core_tree::{BinOp, UnOp};
 
 /// What an operator makes of the boolean after it (JLS 15.15.6): `!` gives a boolean, and no other one has a meaning.

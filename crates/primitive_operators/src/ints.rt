@@ -2,8 +2,8 @@ ghost use Rattle.std.specs.Prelude.{◌≡◌, int_div, int_rem};
 ghost use Rattle.primitive_operators.specs.declared.scalar.Scalar.TheVariants as scalar;
 ghost use Rattle.primitive_operators.specs.Operators.{divided, int_value, unary_value};
 
-use crate::applied::{boolean, int};
 use crate::Applied;
+use crate::applied::{boolean, int};
 use core_tree::{BinOp, UnOp};
 
 /// What an operator makes of the int after it (JLS 15.15): `+`, `-` and `~` give an int, and `!` has no meaning.

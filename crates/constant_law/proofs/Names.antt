@@ -61,24 +61,25 @@ module _ (p : Program) (env : Environment) (constants : KnowsConstants env p) wh
   core_is : (s : Scope) (x : Ident) → local_named s x.name ≡ None → (attr_at env s (Expr-F.Name x)).core ≡ member_core env (inside s x)
   core_is s x no_local = ap (λ o. option_map_or core.Local o (option_map_or (member_core env) (if is_some o then None else Some (inside s x)) core.Null)) no_local
 
+  -- a name evaluates to what it is as a part
+  abbrev IsRead : Scope → Ident → Type 0
+  IsRead s x = Evaluates p (attr_at env s (Expr-F.Name x)).core (name_folded env (meaning_of env.symbols s x.name))
+
   pub name_evaluates : (s : Scope) (x : Ident) → Evaluates p (attr_at env s (Expr-F.Name x)).core (name_folded env (meaning_of env.symbols s x.name))
   name_evaluates s x = of_local (local_named s x.name) refl
     where
-      abbrev Goal : Type 0
-      Goal = Evaluates p (attr_at env s (Expr-F.Name x)).core (name_folded env (meaning_of env.symbols s x.name))
-
-      of_class : local_named s x.name ≡ None → member_of env s.class x.name ≡ None → (found : Option ℕ) → class_named env x.name ≡ found → Goal
+      of_class : local_named s x.name ≡ None → member_of env s.class x.name ≡ None → (found : Option ℕ) → class_named env x.name ≡ found → IsRead s x
       of_class no_local no_member (Some c) is = rw (no_local, no_member, is) tt
       of_class no_local no_member None is = rw (no_local, no_member, is) tt
 
-      of_member : local_named s x.name ≡ None → (found : Option FieldSymbol) → member_of env s.class x.name ≡ found → Goal
+      of_member : local_named s x.name ≡ None → (found : Option FieldSymbol) → member_of env s.class x.name ≡ found → IsRead s x
       of_member no_local (Some m) is =
           let read : name_folded env (meaning_of env.symbols s x.name) ≡ field_folded env m = rw (no_local, is) refl in
           subst (λ f. Evaluates p (attr_at env s (Expr-F.Name x)).core f) (sym read)
           (subst (λ e. Evaluates p e (field_folded env m)) (sym (core_is s x no_local)) (member_evaluates (inside s x) m is refl))
       of_member no_local None is = of_class no_local is (class_named env x.name) refl
 
-      of_local : (found : Option ℕ) → local_named s x.name ≡ found → Goal
+      of_local : (found : Option ℕ) → local_named s x.name ≡ found → IsRead s x
       of_local (Some n) is = rw is tt
       of_local None is = of_member is (member_of env s.class x.name) refl
 

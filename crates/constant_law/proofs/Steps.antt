@@ -21,7 +21,7 @@ module _ (p : Program) where
   goes_on m go w u x v r first second = ap (value_then go) first ∙ ap (after [] []) second
 
   -- what follows takes that many steps
-  abbrev Follows : ℕ → (Parts → Run) → Value → Type 0
+  abbrev pub Follows : ℕ → (Parts → Run) → Value → Type 0
   Follows steps rest r = (k more : ℕ) (w : World) → steps ≤ k → w.fuel ≡ steps + more → rest (meaning p k) w ≡ gives (outcome.Value r) (record w { fuel = more })
 
   -- a node without parts
@@ -49,15 +49,16 @@ module _ (p : Program) where
           ∙ goes_on ((meaning p k).expr e) (rest (meaning p k)) inside (record w { fuel = others + more }) (record w { fuel = more }) v r
           (first.ends k (others + more) inside (omega (arith, le)) refl) (follows k more (record w { fuel = others + more }) (omega (arith, le)) refl)
 
+  -- nothing more is done
+  pub at_once : (r : Value) → Follows 0 (λ part. gives (outcome.Value r)) r
+  at_once r k more w le is =
+      let fuel : w.fuel ≡ more = omega (arith, is) in
+      ap (λ n. gives (outcome.Value r) (record w { fuel = n })) fuel
+
   -- one part
   pub one : (e n : Expr) (v r : Value) (go : Value → Run) → ((part : Parts) (w : World) → expr_node p part (out-Expr n) w ≡ (part.expr e >>= go) w) →
       ((w : World) → go v w ≡ gives (outcome.Value r) w) → Computes p e v → Computes p n r
-  one e n v r go is_node follows first = node e n v r (λ part. go) 0 is_node at first
-    where
-      at : Follows 0 (λ part. go v) r
-      at k more w le is =
-          let fuel : w.fuel ≡ more = omega (arith, is) in
-          follows w ∙ ap (λ n. gives (outcome.Value r) (record w { fuel = n })) fuel
+  one e n v r go is_node follows first = node e n v r (λ part. go) 0 is_node (λ k more w le is. follows w ∙ at_once r k more w le is) first
 
   -- two parts from left to right
   pub two : (e f n : Expr) (v u r : Value) (go : Value → Value → Run) → ((part : Parts) (w : World) → expr_node p part (out-Expr n) w ≡ (part.expr e >>= (λ x. part.expr f >>= go x)) w) →

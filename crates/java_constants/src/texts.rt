@@ -36,7 +36,7 @@ pub fn text(alloc: Global, characters: &[char]) -> Result<Folded, AllocError>
 pub fn joined(alloc: Global, a: &Scalar, b: &Scalar) -> Result<Folded, AllocError>
     ensures { IfOk result (λ f. f ≡ text_folded (concatenated a.now b.now)) }
 {
-    match concatenated(alloc, a.shown(), b.shown(), MOST_UNITS) {
+    match concatenated(alloc, a.by_ref(), b.by_ref(), MOST_UNITS) {
         Ok(Some(text)) => Ok(Folded::Gives(Scalar::Text(text))),
         Ok(None) => Ok(Folded::Fails),
         Err(_) => Err(AllocError),

@@ -26,7 +26,7 @@ fn folded(applied: Applied) -> Folded
 pub fn unary_value(op: UnaryOp, a: &Scalar) -> Folded
     ensures { result ≡ unary_value op a.now }
 {
-    folded(primitive_operators::unary_value(un_op(op), a))
+    folded(primitive_operators::unary_value(un_op(op), a.by_ref()))
 }
 
 // Whether a String may have this value.
@@ -55,7 +55,10 @@ pub fn binary_value(
         return joined(alloc, a, b);
     }
     match strict_op(op) {
-        Some(op) => Ok(folded(primitive_operators::binary_value(op, a, b))),
+        Some(op) => {
+            let applied = primitive_operators::binary_value(op, a.by_ref(), b.by_ref());
+            Ok(folded(applied))
+        }
         None => Ok(Folded::Unknown),
     }
 }

@@ -11,8 +11,17 @@ use Rattle.core_tree.specs.declared.operator.UpOp.{UpOp}
 use Rattle.core_tree.specs.declared.operator.UpOp.TheVariants as update
 use Rattle.primitive_operators.specs.declared.scalar.Scalar.{Scalar}
 use Rattle.primitive_operators.specs.declared.scalar.Scalar.TheVariants as scalar
+use Rattle.primitive_operators.specs.declared.scalar_ref.ScalarRef.{ScalarRef}
+use Rattle.primitive_operators.specs.declared.scalar_ref.ScalarRef.TheVariants as view
 use Rattle.primitive_operators.specs.declared.applied.Applied.{Applied}
 use Rattle.primitive_operators.specs.declared.applied.Applied.TheVariants as applied
+
+-- the value that a borrowed one is
+abbrev pub viewed : ScalarRef → Scalar
+viewed (view.Int n) = scalar.Int n
+viewed (view.Bool b) = scalar.Bool b
+viewed (view.Text t) = scalar.Text t.now
+viewed view.Null = scalar.Null
 
 abbrev pub gives_int : ℤ → Applied
 gives_int n = applied.Gives (scalar.Int n)

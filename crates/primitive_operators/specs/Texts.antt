@@ -4,8 +4,6 @@ use Rattle.std.specs.Fmt.{signed_decimal}
 use Rattle.core_tree.specs.Text.{code_units}
 use Rattle.primitive_operators.specs.declared.scalar.Scalar.{Scalar}
 use Rattle.primitive_operators.specs.declared.scalar.Scalar.TheVariants as scalar
-use Rattle.primitive_operators.specs.declared.shown.Shown.{Shown}
-use Rattle.primitive_operators.specs.declared.shown.Shown.TheVariants as view
 
 abbrev pub truth_text : Bool → List ℕ
 truth_text true = codes "true"
@@ -17,13 +15,6 @@ shown (scalar.Int n) = signed_decimal n
 shown (scalar.Bool b) = truth_text b
 shown (scalar.Text t) = t
 shown scalar.Null = codes "null"
-
--- the text that is shown of a borrowed value
-abbrev pub shown_by : Shown → List ℕ
-shown_by (view.Int n) = signed_decimal n
-shown_by (view.Bool b) = truth_text b
-shown_by (view.Text t) = t.now
-shown_by view.Null = codes "null"
 
 -- `+` with a String (JLS 15.18.1)
 abbrev pub concatenated : Scalar → Scalar → List ℕ

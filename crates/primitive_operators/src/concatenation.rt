@@ -1,8 +1,9 @@
-ghost use Rattle.std.specs.Prelude.{◌≡◌, ◌≤◌, ◌++◌, IfOk, IsErr};
+ghost use Rattle.std.specs.Prelude.{◌≡◌, ◌≤◌, IfOk, IsErr};
 ghost use Rattle.core_tree.specs.Text.{code_units};
-ghost use Rattle.primitive_operators.specs.Texts.{shown_by, text_within};
+ghost use Rattle.primitive_operators.specs.Operators.{viewed};
+ghost use Rattle.primitive_operators.specs.Texts.{concatenated, text_within};
 
-use crate::Shown;
+use crate::ScalarRef;
 use core_tree::{OutOfMemory, Text};
 use std::alloc::Global;
 
@@ -14,12 +15,12 @@ use std::alloc::Global;
 #[tactic(auto, using(crate::proofs::TextUnits::units_append))]
 pub fn concatenated(
     alloc: Global,
-    a: Shown,
-    b: Shown,
+    a: ScalarRef,
+    b: ScalarRef,
     most: u32,
 ) -> Result<Option<Text>, OutOfMemory>
-    ensures value { IfOk result (λ text. text ≡ text_within most (shown_by a.entry ++ shown_by b.entry)) }
-    ensures memory { IsErr result → code_units (shown_by a.entry ++ shown_by b.entry) ≤ most }
+    ensures value { IfOk result (λ text. text ≡ text_within most (concatenated (viewed a.entry) (viewed b.entry))) }
+    ensures memory { IsErr result → code_units (concatenated (viewed a.entry) (viewed b.entry)) ≤ most }
 {
     let first = a.units();
     let second = b.units();

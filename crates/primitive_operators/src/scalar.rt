@@ -1,7 +1,7 @@
 ghost use Rattle.std.specs.Prelude.{◌≡◌, IfOk};
-ghost use Rattle.primitive_operators.specs.Texts.{shown, shown_by};
+ghost use Rattle.primitive_operators.specs.Operators.{viewed};
 
-use crate::Shown;
+use crate::ScalarRef;
 use core_tree::{OutOfMemory, Text};
 
 /// A value that isn't an object.
@@ -26,15 +26,15 @@ impl Scalar {
         }
     }
 
-    /// What a concatenation shows of the value.
-    pub fn shown(&self) -> Shown
-        ensures { shown_by result ≡ shown self.now }
+    /// The same value, whose text is borrowed.
+    pub fn by_ref(&self) -> ScalarRef
+        ensures { viewed result ≡ self.now }
     {
         match self {
-            Scalar::Int(n) => Shown::Int(*n),
-            Scalar::Bool(b) => Shown::Bool(*b),
-            Scalar::Text(text) => Shown::Text(text),
-            Scalar::Null => Shown::Null,
+            Scalar::Int(n) => ScalarRef::Int(*n),
+            Scalar::Bool(b) => ScalarRef::Bool(*b),
+            Scalar::Text(text) => ScalarRef::Text(text),
+            Scalar::Null => ScalarRef::Null,
         }
     }
 }

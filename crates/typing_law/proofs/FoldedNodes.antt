@@ -281,10 +281,10 @@ module _ (env : Environment) (s : Scope) (classes : List CoreClass) (agree : (c 
       (ABool, refl, not_fits f (subst (FoldFits f) (bool_of t.0 (wanted is_boolean e t.0 t.1 b.rule_11)) t.2)))
 
   module _ (l r : Attr) (f g : Folded) where
-    abbrev Operands : Type 0
+    abbrev pub Operands : Type 0
     Operands = Typed l.denotes f × Typed r.denotes g
 
-    operands : Sound l f → Sound r g → value_faults l ++ value_faults r ≡ [] → list_all is_made (f ∷ g ∷ []) ≡ true → Operands
+    pub operands : Sound l f → Sound r g → value_faults l ++ value_faults r ≡ [] → list_all is_made (f ∷ g ∷ []) ≡ true → Operands
     operands sound_l sound_r none made =
         let parts = empty_parts (value_faults l) (value_faults r) none in
         let more = second_so (is_made f) (list_all is_made (g ∷ [])) made in
@@ -360,7 +360,7 @@ module _ (env : Environment) (s : Scope) (classes : List CoreClass) (agree : (c 
     sum_said : (t : Operands) → result binary.Add ≡ Some (denotes.Value (kind_type (sum_kind t.0.0 t.1.0)))
     sum_said t = ap (λ d. value (binary_type binary.Add (value_type d) (value_type r.denotes))) t.0.1 ∙ ap (λ d. value (binary_type binary.Add (Some (kind_type t.0.0)) (value_type d))) t.1.1 ∙ ap (λ u. Some (denotes.Value u)) (sum_types t.0.0 t.1.0)
 
-    sum_operands : (t : Operands) → sum_11 l r ≡ [] → (text_kind t.0.0 || text_kind t.1.0) ≡ false → (t.0.0 ≡ AnInt) × (t.1.0 ≡ AnInt)
+    pub sum_operands : (t : Operands) → sum_11 l r ≡ [] → (text_kind t.0.0 || text_kind t.1.0) ≡ false → (t.0.0 ≡ AnInt) × (t.1.0 ≡ AnInt)
     sum_operands t none no_text =
         let a = t.0.0 in
         let b = t.1.0 in

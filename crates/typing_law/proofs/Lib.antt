@@ -1,10 +1,10 @@
 mod Types
-mod TypeFacts
-mod NoFaults
-mod Standing
+pub mod TypeFacts
+pub mod NoFaults
+pub mod Standing
 mod Parts
 mod Values
-mod Nodes
+pub mod Nodes
 mod Operators
 mod Arguments
 mod Names
@@ -35,9 +35,9 @@ mod FileLookups
 mod FileFields
 mod FieldRows
 mod FileMembers
-mod LiteralKinds
+pub mod LiteralKinds
 mod FoldedOperators
-mod FoldedNodes
+pub mod FoldedNodes
 mod FileConstants
 mod FileAgrees
 mod WholeLists

@@ -2,14 +2,12 @@ ghost use Rattle.std.specs.Prelude.{◌≡◌, IfOk, IsErr};
 ghost use Rattle.evaluation.specs.Values.{binary_value, unary_value, update_value};
 
 use crate::concatenated;
-use crate::equality::same_value;
-use crate::scalars::computed;
+use crate::equality::same_object;
+use crate::scalars::{computed, scalar};
 use core_tree::{BinOp, OutOfMemory, UnOp, UpOp};
 use evaluation::Computed;
 use heap_arena::Cell;
-use primitive_operators::{
-    binary_op, bool_value, equality_value, int_value, unary_bool, unary_int,
-};
+use primitive_operators::{binary_op, equality_value};
 use std::alloc::Global;
 
 /// What an operator makes of the value after it (JLS 15.15): `+`, `-` and `~` of an int and `!` of a boolean, and
@@ -17,28 +15,20 @@ use std::alloc::Global;
 pub fn unary_value(op: UnOp, v: &Cell<u32>) -> Computed
     ensures { result ≡ unary_value op v.now }
 {
-    match v {
-        Cell::Int(a) => computed(unary_int(op, *a)),
-        Cell::Bool(a) => computed(unary_bool(op, *a)),
-        Cell::Null | Cell::Ref(_) | Cell::Text(_) => Computed::NoMeaning,
+    match scalar(v) {
+        Some(a) => computed(primitive_operators::unary_value(op, a)),
+        None => Computed::NoMeaning,
     }
 }
 
 /// What an operator makes of two values (JLS 15.17 to 15.22): between two ints, between two booleans, and `==` and `!=`
-/// between objects and null. A division by zero traps; operands of other types give `NoMeaning`.
+/// between objects, null, and a text and null. A division by zero traps; operands of other types give `NoMeaning`.
 pub fn binary_value(op: BinOp, a: &Cell<u32>, b: &Cell<u32>) -> Computed
     ensures { result ≡ binary_value op a.now b.now }
 {
-    match a {
-        Cell::Int(x) => match b {
-            Cell::Int(y) => computed(int_value(op, *x, *y)),
-            _ => computed(equality_value(op, same_value(a, b))),
-        },
-        Cell::Bool(x) => match b {
-            Cell::Bool(y) => computed(bool_value(op, *x, *y)),
-            _ => computed(equality_value(op, same_value(a, b))),
-        },
-        _ => computed(equality_value(op, same_value(a, b))),
+    match (scalar(a), scalar(b)) {
+        (Some(x), Some(y)) => computed(primitive_operators::binary_value(op, x, y)),
+        _ => computed(equality_value(op, same_object(a, b))),
     }
 }
 

@@ -2,14 +2,15 @@ ghost use Rattle.std.specs.Prelude.{◌≡◌, ◌++◌, IfOk, IsErr, IsSome, On
 ghost use Rattle.std.specs.Fmt.{signed_decimal};
 ghost use Rattle.std.specs.Str.{encode_utf8_all};
 ghost use Rattle.evaluation.specs.Execute.{printed};
-ghost use Rattle.primitive_operators.specs.Texts.{shown_by};
+ghost use Rattle.primitive_operators.specs.Operators.{viewed};
+ghost use Rattle.primitive_operators.specs.Texts as texts;
 ghost use Rattle.evaluation.specs.Values.{shown};
 
-use crate::scalars::shown;
+use crate::scalars::scalar;
 use core_tree::OutOfMemory;
 use heap_arena::Cell;
 use pb_int::{Digits, decimal};
-use primitive_operators::Shown;
+use primitive_operators::ScalarRef;
 use std::alloc::Global;
 
 /// The bytes that a print of a value writes: the text that is shown of it in UTF-8, and a line feed where the line
@@ -18,7 +19,7 @@ pub fn print_bytes(alloc: Global, line: bool, v: &Cell<u32>) -> Result<Option<Ve
     ensures value { IfOk result (λ it. option_map (λ bytes. bytes.items) it ≡ option_map (printed line) (shown v.now)) }
     ensures memory { IsErr result → IsSome (shown v.now) }
 {
-    let Some(shown) = shown(v) else {
+    let Some(shown) = scalar(v) else {
         return Ok(None);
     };
     let mut text = String::new(alloc);
@@ -29,16 +30,16 @@ pub fn print_bytes(alloc: Global, line: bool, v: &Cell<u32>) -> Result<Option<Ve
     Ok(Some(text.into_bytes()))
 }
 
-// Appends what is shown.
-fn push_shown(text: &mut String, shown: Shown) -> Result<(), OutOfMemory>
-    ensures { OnOk result (string_bytes text.new ≡ string_bytes text.old ++ encode_utf8_all (shown_by shown.entry)) }
+// Appends the text that is shown of a value.
+fn push_shown(text: &mut String, v: ScalarRef) -> Result<(), OutOfMemory>
+    ensures { OnOk result (string_bytes text.new ≡ string_bytes text.old ++ encode_utf8_all (texts.shown (viewed v.entry))) }
 {
-    match shown {
-        Shown::Int(n) => push_int(text, n),
-        Shown::Bool(true) => Ok(text.push_str("true")?),
-        Shown::Bool(false) => Ok(text.push_str("false")?),
-        Shown::Null => Ok(text.push_str("null")?),
-        Shown::Text(shown) => push_characters(text, shown.characters()),
+    match v {
+        ScalarRef::Int(n) => push_int(text, n),
+        ScalarRef::Bool(true) => Ok(text.push_str("true")?),
+        ScalarRef::Bool(false) => Ok(text.push_str("false")?),
+        ScalarRef::Null => Ok(text.push_str("null")?),
+        ScalarRef::Text(shown) => push_characters(text, shown.characters()),
     }
 }
 

@@ -1,22 +1,22 @@
 ghost use Rattle.std.specs.Prelude.{◌≡◌, option_map};
-ghost use Rattle.primitive_operators.specs.Texts.{shown_by};
-ghost use Rattle.evaluation.specs.Values.{computed_by, shown, value_of};
+ghost use Rattle.primitive_operators.specs.Operators.{viewed};
+ghost use Rattle.evaluation.specs.Values.{computed_by, scalar_of, value_of};
 
 use core_tree::BuiltIn;
 use evaluation::Computed;
 use heap_arena::Cell;
-use primitive_operators::{Applied, Scalar, Shown};
+use primitive_operators::{Applied, Scalar, ScalarRef};
 
-// What is shown of a value; nothing of a reference.
-pub fn shown(v: &Cell<u32>) -> Option<Shown>
-    ensures { option_map shown_by result ≡ shown v.now }
+// The value, where it isn't an object.
+pub fn scalar(v: &Cell<u32>) -> Option<ScalarRef>
+    ensures { option_map viewed result ≡ scalar_of v.now }
 {
     match v {
-        Cell::Int(n) => Some(Shown::Int(*n)),
-        Cell::Bool(b) => Some(Shown::Bool(*b)),
-        Cell::Null => Some(Shown::Null),
+        Cell::Int(n) => Some(ScalarRef::Int(*n)),
+        Cell::Bool(b) => Some(ScalarRef::Bool(*b)),
+        Cell::Null => Some(ScalarRef::Null),
         Cell::Ref(_) => None,
-        Cell::Text(text) => Some(Shown::Text(text)),
+        Cell::Text(text) => Some(ScalarRef::Text(text)),
     }
 }
 

@@ -3,7 +3,7 @@ ghost use Rattle.heap_arena.specs.declared.cell.Cell.TheVariants as value;
 ghost use Rattle.evaluation.specs.declared.computed.Computed.TheVariants as computed;
 ghost use Rattle.evaluation.specs.Values.{concatenated, literal, text_equals, text_length, units_value};
 
-use crate::scalars::shown;
+use crate::scalars::scalar;
 use core_tree::{BuiltIn, OutOfMemory, Text};
 use evaluation::Computed;
 use heap_arena::Cell;
@@ -30,10 +30,10 @@ pub fn concatenated(alloc: Global, a: &Cell<u32>, b: &Cell<u32>) -> Result<Compu
     ensures value { IfOk result (λ it. it ≡ concatenated a.now b.now) }
     ensures memory { IsErr result → (t : List ℕ) × (concatenated a.now b.now ≡ computed.Gives (value.Text t)) }
 {
-    let Some(first) = shown(a) else {
+    let Some(first) = scalar(a) else {
         return Ok(Computed::NoMeaning);
     };
-    let Some(second) = shown(b) else {
+    let Some(second) = scalar(b) else {
         return Ok(Computed::NoMeaning);
     };
     match primitive_operators::concatenated(alloc, first, second, MOST_UNITS)? {

@@ -1,7 +1,7 @@
 use Rattle.std.proofs.Common.{◌≡◌, ◌∙◌, length, arith, sym, rules}
 use Rattle.std.specs.Fmt.{signed_decimal}
 use Rattle.primitive_operators.proofs.TextUnits.{decimal_units}
-use Rattle.primitive_operators.proofs.shown.decimal_units.Goals as goal
+use Rattle.primitive_operators.proofs.scalar_ref.decimal_units.Goals as goal
 
 pub returns : goal.returns
 returns c =

@@ -1,6 +1,7 @@
 //! What the built-in classes declare.
 
-ghost use Rattle.std.specs.Prelude.{◌≡◌, IfOk};
+ghost use Rattle.std.specs.Prelude.{◌≡◌, IfOk, map, option_map};
+ghost use Rattle.core_tree.specs.BuiltIn.{number_of, parent_of};
 ghost use Rattle.class_table.specs.BuiltIn as spec;
 
 use crate::declaration::Declaration;
@@ -125,14 +126,21 @@ fn makers(alloc: Global, class: BuiltIn) -> Result<Items<MakerRow>, AllocError>
     }
 }
 
-// What a built-in class declares.
+fn parent(class: BuiltIn) -> Option<u32>
+    ensures { result ≡ option_map number_of (parent_of class) }
+{
+    match class.parent() {
+        Some(parent) => Some(parent.number()),
+        None => None,
+    }
+}
+
 fn declaration(alloc: Global, class: BuiltIn) -> Result<Declaration, AllocError>
     ensures { IfOk result (λ d. d ≡ spec.declaration_of class) }
 {
-    let characters = class.name().chars().collect(alloc)?;
     Ok(Declaration {
-        name: Name::new(characters),
-        parent: class.parent().map(|parent| parent.number()),
+        name: name(alloc, class.name().as_bytes())?,
+        parent: parent(class),
         fields: fields(alloc, class)?,
         methods: Shared::new(alloc, methods(alloc, class)?)?,
         makers: Shared::new(alloc, makers(alloc, class)?)?,
@@ -140,14 +148,21 @@ fn declaration(alloc: Global, class: BuiltIn) -> Result<Declaration, AllocError>
     })
 }
 
+// What each of some built-in classes declares.
+fn declarations(alloc: Global, classes: &[BuiltIn]) -> Result<Items<Declaration>, AllocError>
+    ensures { IfOk result (λ all. all ≡ map spec.declaration_of classes.now) }
+{
+    let mut all = Items::new(alloc);
+    for class in classes {
+        all.push(declaration(alloc, *class)?)?;
+    }
+    Ok(all)
+}
+
 /// The built-in classes by their numbers.
 #[tactic(auto, unfolding(crate::specs::BuiltIn::built_in))]
 pub fn built_in(alloc: Global) -> Result<Items<Declaration>, AllocError>
     ensures { IfOk result (λ classes. classes ≡ spec.built_in) }
 {
-    let mut classes = Items::new(alloc);
-    for class in BuiltIn::ALL {
-        classes.push(declaration(alloc, class)?)?;
-    }
-    Ok(classes)
+    declarations(alloc, &BuiltIn::ALL)
 }

@@ -1,7 +1,7 @@
 //! The instance fields that each class declares itself.
 
 ghost use Rattle.std.specs.Prelude.{◌≡◌, ◌∷◌, ◌++◌, [], IfErr, IfOk, OnOk, flat_map, map};
-ghost use Rattle.core_tree.specs.BuiltIn.{all_built_in, first_class, message_field};
+ghost use Rattle.core_tree.specs.BuiltIn.{first_class, message_field};
 ghost use Rattle.java_names.specs.Refusals.{Refuses};
 ghost use Rattle.java_members.specs.Files as spec;
 
@@ -41,14 +41,14 @@ fn built_in_own(alloc: Global, class: BuiltIn) -> Result<Items<Field>, CheckErro
     Ok(fields)
 }
 
-// The fields that each built-in class declares itself, by the classes' numbers.
-fn built_in_fields(alloc: Global) -> Result<Items<Items<Field>>, CheckError>
-    ensures fields { IfOk result (λ all. all ≡ map spec.built_in_own all_built_in) }
+// The fields that each of some built-in classes declares itself.
+fn built_in_fields(alloc: Global, classes: &[BuiltIn]) -> Result<Items<Items<Field>>, CheckError>
+    ensures fields { IfOk result (λ all. all ≡ map spec.built_in_own classes.now) }
     ensures memory { IfErr result (λ e. e ≡ CheckError.OutOfMemory) }
 {
     let mut all = Items::new(alloc);
-    for class in BuiltIn::ALL {
-        all.push(built_in_own(alloc, class)?)?;
+    for class in classes {
+        all.push(built_in_own(alloc, *class)?)?;
     }
     Ok(all)
 }
@@ -123,7 +123,7 @@ pub fn own_fields(
     ensures fields { IfOk result (λ all. all ≡ spec.all_own_fields env.now tree.now) }
     ensures fault { IfErr result (Refuses (spec.of_members (spec.member_faults env.now) first_class tree.now.classes)) }
 {
-    let mut all = built_in_fields(alloc)?;
+    let mut all = built_in_fields(alloc, &BuiltIn::ALL)?;
     add_file_fields(alloc, env, tree.classes.as_slice(), &mut all)?;
     Ok(all)
 }

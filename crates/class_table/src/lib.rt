@@ -26,4 +26,4 @@ mod row;
 mod rows;
 
 pub use check::table;
-pub use row::{ClassRow, ClassTable, FieldRow, Fields, MakerRow, MethodRow, Shared};
+pub use row::{ClassRow, ClassTable, FieldRow, Fields, MakerRow, MethodRow};

@@ -1,56 +1,14 @@
 //! The rows of the class table.
 
-ghost use Rattle.std.specs.Prelude.{◌≡◌, ◌<◌, ◌≤◌, IfOk, flat_map, length};
+ghost use Rattle.std.specs.Prelude.{◌≡◌, ◌≤◌, flat_map, length};
 ghost use Rattle.class_table.specs.Names.{number_of};
 
 use crate::keys::Keys;
+use core_tree::Shared;
 use java_syntax::{Mods, TypeTree};
 use java_tokens::Name;
 use sqlite_items::Items;
-use std::alloc::{AllocError, Global};
 use std::marker::Model;
-use std::rc::Rc;
-
-/// A value with several owners, that contracts see as the value.
-#[derive(Drop)]
-pub struct Shared<T> {
-    inner: Rc<T>,
-}
-
-impl<T> Model for Shared<T> {
-    ghost Value = { T };
-
-    ghost coded = { T.code };
-
-    ghost view = { λ shared. shared.inner.value };
-}
-
-impl<T: Drop> Shared<T> {
-    /// The value, with one owner. `AllocError` where there is no memory left.
-    pub fn new(alloc: Global, value: T) -> Result<Shared<T>, AllocError>
-        ensures { IfOk result (λ shared. shared ≡ value) }
-    {
-        Ok(Shared {
-            inner: Rc::new(alloc, value)?,
-        })
-    }
-
-    /// The value.
-    pub fn get(&self) -> &T
-        ensures { result.now ≡ self.now }
-    {
-        self.inner.as_ref()
-    }
-
-    /// One owner more of the same value, which is not copied. `AllocError` where there is no memory left.
-    pub fn share(&self) -> Result<Shared<T>, AllocError>
-        ensures { IfOk result (λ shared. shared ≡ self.now) }
-    {
-        Ok(Shared {
-            inner: self.inner.clone()?,
-        })
-    }
-}
 
 /// A field or a constant of a class (JLS 8.3).
 #[derive(Drop)]

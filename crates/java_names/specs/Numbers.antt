@@ -2,7 +2,8 @@
 use Rattle.std.specs.Prelude.{ℕ, ◌+◌, List, [], ◌∷◌, length, if◌then◌else◌}
 use Rattle.class_table.specs.declared.row.ClassRow.{ClassRow}
 use Rattle.java_names.specs.declared.numbers.Numbers.{Numbers}
-use Rattle.java_names.specs.BuiltIn.{is_built_in, needs_maker}
+use Rattle.core_tree.specs.BuiltIn.{is_built_in}
+use Rattle.java_names.specs.BuiltIn.{needs_maker}
 
 -- how many constructors are made for class number c
 abbrev pub made_for : ℕ → ClassRow → ℕ

@@ -6,8 +6,7 @@ ghost use Rattle.class_table.specs.Names.{same_name};
 ghost use Rattle.java_names.specs.Scope as spec;
 
 use crate::symbol::{FieldSymbol, Symbols};
-use class_table::Shared;
-use core_tree::Ty;
+use core_tree::{Shared, Ty};
 use indexmap::IndexMap;
 use java_tokens::Name;
 use sqlite_items::Items;

@@ -1,8 +1,7 @@
 //! What a file declares, with numbers and resolved types.
 
 use crate::numbering::Numbering;
-use class_table::Shared;
-use core_tree::Ty;
+use core_tree::{Shared, Ty};
 use java_tokens::Name;
 use sqlite_items::Items;
 

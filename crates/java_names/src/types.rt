@@ -6,8 +6,7 @@ ghost use Rattle.java_names.specs.Types as spec;
 ghost use Rattle.java_syntax.specs.declared.fault.Fault.{Fault};
 
 use crate::numbering::Numbering;
-use class_table::Shared;
-use core_tree::Ty;
+use core_tree::{Shared, Ty};
 use java_syntax::{BaseType, CheckError, Fault, TypeTree};
 use java_tokens::Name;
 use sqlite_items::{Boxed, Items};

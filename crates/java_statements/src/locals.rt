@@ -11,8 +11,7 @@ ghost use Rattle.java_statements.specs.Outcomes.{Gives};
 ghost use Rattle.java_statements.specs.Statements as spec;
 ghost use Rattle.java_statements.specs.Statements.{effect_at};
 
-use class_table::Shared;
-use core_tree::{Expr as Core, Stmt as Step, Ty};
+use core_tree::{Expr as Core, Shared, Stmt as Step, Ty};
 use java_exprs::Environment;
 use java_exprs::arguments::fit;
 use java_exprs::casts::named_type;

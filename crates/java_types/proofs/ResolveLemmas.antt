@@ -21,7 +21,8 @@ use Rattle.java_statements.specs.Statements.{again_10, exception_10, exception_1
 use Rattle.java_types.specs.Declarations.{answer_10, params_10, with_param, method_scope, maker_scope, method_words_20, maker_words_20, declaration_faults}
 use Rattle.java_types.specs.Constants.{read_classes, with_constants}
 use Rattle.java_types.specs.Answers.{faults_in, read_in}
-use Rattle.java_types.specs.Files.{first_class, first_env, env_of, reading_of, of_members, of_made, member_faults, made_faults, declared_faults, body_faults, faults_of, program_in, program_of}
+use Rattle.core_tree.specs.BuiltIn.{first_class}
+use Rattle.java_types.specs.Files.{first_env, env_of, reading_of, of_members, of_made, member_faults, made_faults, declared_faults, body_faults, faults_of, program_in, program_of}
 use Rattle.java_types.proofs.FileLemmas.{refuses_declared, refuses_first_of, refuses_second, then_body}
 
 -- ---- declarations read no constants

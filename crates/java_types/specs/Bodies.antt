@@ -69,6 +69,7 @@ core_method env c m = record {
   answer = answer_type env.symbols.names m.answer;
   locals = drop (length m.params) (method_effects env c m).after.slots;
   body = (method_effects env c m).steps;
+  contract = None;
 }
 
 -- ---- what a constructor does with the superclass, at the word `super` or at the name of the constructor or of the class

@@ -1,12 +1,14 @@
 -- Which rules a file breaks, and the resolved program of a file that breaks none.
-use Rattle.std.specs.Prelude.{ℕ, suc, List, [], ◌∷◌, ◌++◌, reverse, position, slice_get, unwrap_or, if◌then◌else◌}
+use Rattle.std.specs.Prelude.{ℕ, suc, List, [], ◌∷◌, ◌++◌, map, reverse, position, slice_get, unwrap_or, if◌then◌else◌}
 use Rattle.std.specs.List.{flat_map}
 use Rattle.core_tree.specs.declared.program.Class.{Class}
 use Rattle.core_tree.specs.declared.program.Field.{Field}
 use Rattle.core_tree.specs.declared.program.Method.{Method}
 use Rattle.core_tree.specs.declared.program.Maker.{Maker}
 use Rattle.core_tree.specs.declared.program.Program.{Program}
-use Rattle.core_tree.specs.BuiltIn.{message_field}
+use Rattle.core_tree.specs.declared.built_in.BuiltIn.{BuiltIn}
+use Rattle.core_tree.specs.declared.built_in.BuiltIn.TheVariants as built_in
+use Rattle.core_tree.specs.BuiltIn.{all_built_in, first_class, message_field}
 use Rattle.java_syntax.specs.declared.fault.Fault.{Fault}
 use Rattle.java_syntax.specs.declared.class.MethodTree.{MethodTree}
 use Rattle.java_syntax.specs.declared.class.Member.{Member}
@@ -17,6 +19,7 @@ use Rattle.class_table.specs.declared.row.ClassTable.{ClassTable}
 use Rattle.class_table.specs.declared.row.ClassRow.{ClassRow}
 use Rattle.class_table.specs.Members.{is_static, method_row}
 use Rattle.class_table.specs.Rules.{is_main}
+use Rattle.java_names.specs.declared.symbol.Symbols.{Symbols}
 use Rattle.java_names.specs.Symbols.{symbols_of}
 use Rattle.java_names.specs.Lookups.{line_of}
 use Rattle.java_names.specs.Chosen.{chosen_of}
@@ -24,10 +27,6 @@ use Rattle.java_exprs.specs.declared.environment.Environment.{Environment}
 use Rattle.java_types.specs.Declarations.{declaration_faults}
 use Rattle.java_types.specs.Constants.{Reading, read_classes, with_constants}
 use Rattle.java_types.specs.Bodies.{field_faults, method_effects, maker_faults, parent_faults, core_field, core_method, core_maker, made_maker}
-
--- the number of the first class of the file
-abbrev pub first_class : ℕ
-first_class = 18
 
 -- ---- what is known before the bodies are read
 
@@ -104,24 +103,27 @@ unfoldable pub own_fields : Environment → ℕ → List ClassTree → List (Lis
 own_fields env c [] = []
 own_fields env c (k ∷ ks) = flat_map (own_field env c) k.members ∷ own_fields env (suc c) ks
 
--- the same of all classes: of the built-in ones only Throwable declares one, the message
-abbrev pub no_fields : List Field
-no_fields = []
+-- the same of a built-in class: Throwable alone declares one, the message
+abbrev pub built_in_own : BuiltIn → List Field
+built_in_own built_in.Throwable = message_field ∷ []
+built_in_own _ = []
 
-abbrev pub built_in_fields : List (List Field)
-built_in_fields =
-    no_fields ∷ (message_field ∷ []) ∷ no_fields ∷ no_fields ∷ no_fields ∷ no_fields ∷ no_fields ∷ no_fields ∷ no_fields
-    ∷ no_fields ∷ no_fields ∷ no_fields ∷ no_fields ∷ no_fields ∷ no_fields ∷ no_fields ∷ no_fields ∷ no_fields ∷ []
-
+-- the same of all classes, by their numbers
 abbrev pub all_own_fields : Environment → FileTree → List (List Field)
-all_own_fields env tree = built_in_fields ++ own_fields env first_class tree.classes
+all_own_fields env tree = map built_in_own all_built_in ++ own_fields env first_class tree.classes
 
--- the fields of a class, those of the highest class of its line first
+-- the fields of a class, those of the highest class of its line first, where each class declares these itself
+abbrev pub fields_along : List (List Field) → Symbols → ℕ → List Field
+fields_along declared symbols c = flat_map (λ d. unwrap_or (slice_get declared d) []) (reverse (line_of symbols c))
+
 abbrev pub fields_of : Environment → FileTree → ℕ → List Field
-fields_of env tree c = flat_map (λ d. unwrap_or (slice_get (all_own_fields env tree) d) []) (reverse (line_of env.symbols c))
+fields_of env tree c = fields_along (all_own_fields env tree) env.symbols c
+
+abbrev pub class_with : List (List Field) → Symbols → ℕ → ClassRow → Class
+class_with declared symbols c row = record { name = row.name; parent = row.parent; fields = fields_along declared symbols c; chosen = chosen_of symbols c }
 
 abbrev pub core_class : Environment → FileTree → ℕ → ClassRow → Class
-core_class env tree c row = record { name = row.name; parent = row.parent; fields = fields_of env tree c; chosen = chosen_of env.symbols c }
+core_class env tree c row = class_with (all_own_fields env tree) env.symbols c row
 
 unfoldable pub core_classes : Environment → FileTree → ℕ → List ClassRow → List Class
 core_classes env tree c [] = []

@@ -1,96 +1,55 @@
 //! The classes of the resolved program, with the fields that they declare and inherit.
 
-ghost use Rattle.std.specs.Prelude.{◌≡◌, ◌∷◌, ◌++◌, [], IfErr, IfOk, OnOk, flat_map, reverse, slice_get, unwrap_or};
-ghost use Rattle.core_tree.specs.BuiltIn.{message_field};
+ghost use Rattle.std.specs.Prelude.{◌≡◌, ◌++◌, [], IfErr, IfOk, OnOk, reverse, slice_get, unwrap_or};
+ghost use Rattle.core_tree.specs.BuiltIn.{first_class};
 ghost use Rattle.java_exprs.specs.Checks.{Refuses};
 ghost use Rattle.java_types.specs.Files as spec;
 
-use crate::fields::field;
-use crate::modifiers::is_static;
-use crate::numbers::{FIRST_CLASS, following};
+use crate::numbers::following;
+use crate::own_fields::own_fields;
 use class_table::ClassRow;
-use core_tree::{Class, Field, Ty};
+use core_tree::{Class, Field};
 use java_exprs::Environment;
 use java_exprs::literals::text_of;
-use java_syntax::{CheckError, FileTree, Member};
+use java_names::Symbols;
+use java_syntax::{CheckError, FileTree};
 use sqlite_items::{Items, at};
 use std::alloc::{AllocError, Global};
 
-/// The number of Throwable.
-const THROWABLE: u32 = 1;
-
-// The message of a Throwable, which no source can name.
-fn message_field(alloc: Global) -> Result<Field, CheckError>
-    ensures field { IfOk result (λ f. f ≡ message_field) }
+// The field, as a class inherits it.
+fn inherited(alloc: Global, field: &Field) -> Result<Field, CheckError>
+    ensures field { IfOk result (λ copy. copy ≡ field.now) }
     ensures memory { IfErr result (λ e. e ≡ CheckError.OutOfMemory) }
 {
-    let name = ['#', 'm', 'e', 's', 's', 'a', 'g', 'e'];
-    Ok(Field {
-        name: text_of(alloc, &name)?,
-        ty: Ty::Text,
-        start: None,
-        owner: THROWABLE,
-    })
-}
-
-// Adds the field that a member of class number `class` is.
-fn add_member(
-    alloc: Global,
-    env: &Environment,
-    class: u32,
-    member: &Member,
-    fields: &mut Items<Field>,
-) -> Result<(), CheckError>
-    ensures fields { OnOk result (fields.new ≡ fields.old ++ spec.own_field env.now class member.now) }
-    ensures fault { IfErr result (Refuses (spec.member_faults env.now class member.now)) }
-{
-    if let Member::Field(tree) = member {
-        if !is_static(&tree.mods) {
-            let field = field(alloc, env, class, tree)?;
-            fields.push(field)?;
-        }
+    match field.share(alloc) {
+        Ok(copy) => Ok(copy),
+        Err(_) => Err(CheckError::OutOfMemory),
     }
-    Ok(())
 }
 
-// Adds the fields that the members of class number `class` are.
-fn add_members(
-    alloc: Global,
-    env: &Environment,
-    class: u32,
-    members: &[Member],
-    fields: &mut Items<Field>,
-) -> Result<(), CheckError>
-    ensures fields { OnOk result (fields.new ≡ fields.old ++ flat_map (spec.own_field env.now class) members.now) }
-    ensures fault { IfErr result (Refuses (flat_map (spec.member_faults env.now class) members.now)) }
+// Adds these fields.
+fn add_fields(alloc: Global, own: &[Field], fields: &mut Items<Field>) -> Result<(), CheckError>
+    ensures fields { OnOk result (fields.new ≡ fields.old ++ own.now) }
+    ensures memory { IfErr result (λ e. e ≡ CheckError.OutOfMemory) }
 {
-    for member in members {
-        add_member(alloc, env, class, member, fields)?;
+    for field in own {
+        fields.push(inherited(alloc, field)?)?;
     }
     Ok(())
 }
 
 // Adds the fields that class number `class` declares itself.
-#[tactic(auto, using(crate::proofs::ClassLemmas::declared_fields))]
 fn add_declared(
     alloc: Global,
-    env: &Environment,
-    tree: &FileTree,
+    declared: &[Items<Field>],
     class: u32,
     fields: &mut Items<Field>,
 ) -> Result<(), CheckError>
-    ensures fields { OnOk result (fields.new ≡ fields.old ++ unwrap_or (slice_get (spec.all_own_fields env.now tree.now) class) []) }
-    ensures fault { IfErr result (Refuses (spec.of_members (spec.member_faults env.now) spec.first_class tree.now.classes)) }
+    ensures fields { OnOk result (fields.new ≡ fields.old ++ unwrap_or (slice_get declared.now class) []) }
+    ensures memory { IfErr result (λ e. e ≡ CheckError.OutOfMemory) }
 {
-    if class == THROWABLE {
-        let message = message_field(alloc)?;
-        return Ok(fields.push(message)?);
-    }
-    if class < FIRST_CLASS {
-        return Ok(());
-    }
-    match at(tree.classes.as_slice(), (class - FIRST_CLASS) as usize) {
-        Some(class_tree) => add_members(alloc, env, class, class_tree.members.as_slice(), fields),
+    match at(declared, class as usize) {
+        Some(own) => add_fields(alloc, own.as_slice(), fields),
         None => Ok(()),
     }
 }
@@ -102,21 +61,21 @@ fn highest_first(alloc: Global, line: &[u32]) -> Result<Items<u32>, AllocError>
     Ok(Items::from_vec(line.iter().rev().copied().collect(alloc)?))
 }
 
-// The instance fields of class number `class`, those of the highest class of its line first. An inherited initialiser is
-// checked and resolved again: it is part of each class that inherits it, and a class has at most 255 instance fields.
+// The instance fields of class number `class`, those of the highest class of its line first. Their initialisers are shared
+// with the classes that declare them.
 fn fields_of(
     alloc: Global,
-    env: &Environment,
-    tree: &FileTree,
+    symbols: &Symbols,
+    declared: &[Items<Field>],
     class: u32,
 ) -> Result<Items<Field>, CheckError>
-    ensures fields { IfOk result (λ fields. fields ≡ spec.fields_of env.now tree.now class) }
-    ensures fault { IfErr result (Refuses (spec.of_members (spec.member_faults env.now) spec.first_class tree.now.classes)) }
+    ensures fields { IfOk result (λ fields. fields ≡ spec.fields_along declared.now symbols.now class) }
+    ensures memory { IfErr result (λ e. e ≡ CheckError.OutOfMemory) }
 {
-    let line = highest_first(alloc, env.symbols.line(class))?;
+    let line = highest_first(alloc, symbols.line(class))?;
     let mut fields = Items::new(alloc);
     for above in line.as_slice() {
-        add_declared(alloc, env, tree, *above, &mut fields)?;
+        add_declared(alloc, declared, *above, &mut fields)?;
     }
     Ok(fields)
 }
@@ -124,17 +83,17 @@ fn fields_of(
 // Class number `class`, whose row this is.
 fn class(
     alloc: Global,
-    env: &Environment,
-    tree: &FileTree,
+    symbols: &Symbols,
+    declared: &[Items<Field>],
     class: u32,
     row: &ClassRow,
 ) -> Result<Class, CheckError>
-    ensures class { IfOk result (λ k. k ≡ spec.core_class env.now tree.now class row.now) }
-    ensures fault { IfErr result (Refuses (spec.of_members (spec.member_faults env.now) spec.first_class tree.now.classes)) }
+    ensures class { IfOk result (λ k. k ≡ spec.class_with declared.now symbols.now class row.now) }
+    ensures memory { IfErr result (λ e. e ≡ CheckError.OutOfMemory) }
 {
     let name = text_of(alloc, row.name.characters())?;
-    let chosen = env.symbols.chosen(alloc, class)?;
-    let fields = fields_of(alloc, env, tree, class)?;
+    let chosen = symbols.chosen(alloc, class)?;
+    let fields = fields_of(alloc, symbols, declared, class)?;
     Ok(Class {
         name,
         parent: row.parent,
@@ -143,7 +102,8 @@ fn class(
     })
 }
 
-/// The classes of the program, by the rows of its table: the built-in ones, then those of the file.
+/// The classes of the program, by the rows of its table: the built-in ones, then those of the file. Each initialiser is
+/// resolved once, and shared by the classes that inherit its field.
 ///
 /// # Errors
 /// `Fault` of a rule that a field's initialiser breaks, at the token where it does. `OutOfMemory` where there is no memory
@@ -156,12 +116,13 @@ pub fn classes(
     rows: &[ClassRow],
 ) -> Result<Items<Class>, CheckError>
     ensures classes { IfOk result (λ classes. classes ≡ spec.core_classes env.now tree.now 0 rows.now) }
-    ensures fault { IfErr result (Refuses (spec.of_members (spec.member_faults env.now) spec.first_class tree.now.classes)) }
+    ensures fault { IfErr result (Refuses (spec.of_members (spec.member_faults env.now) first_class tree.now.classes)) }
 {
+    let declared = own_fields(alloc, env, tree)?;
     let mut number = 0;
     let mut classes = Items::new(alloc);
     for row in rows {
-        let class = class(alloc, env, tree, number, row)?;
+        let class = class(alloc, &env.symbols, declared.as_slice(), number, row)?;
         classes.push(class)?;
         number = following(number)?;
     }

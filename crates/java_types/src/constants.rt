@@ -7,12 +7,13 @@ ghost use Rattle.java_exprs.specs.Constants.{folded_of, literal_of};
 ghost use Rattle.java_types.specs.Answers.{read_in};
 ghost use Rattle.java_types.specs.Constants as spec;
 ghost use Rattle.java_types.specs.Declarations.{constant_scope};
-ghost use Rattle.java_types.specs.Files.{first_class};
+ghost use Rattle.core_tree.specs.BuiltIn.{first_class};
 
 use crate::modifiers::is_static;
-use crate::numbers::{FIRST_CLASS, following};
+use crate::numbers::following;
 use crate::scopes::constant_scope;
 use crate::types::declared_type;
+use core_tree::FIRST_CLASS;
 use java_constants::fold;
 use java_exprs::arguments::fit;
 use java_exprs::expression::value;

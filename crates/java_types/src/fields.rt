@@ -8,13 +8,12 @@ ghost use Rattle.java_types.specs.Declarations.{maker_scope};
 
 use crate::scopes::maker_scope;
 use crate::types::declared_type;
-use core_tree::{Expr, Field};
+use core_tree::{Expr, Field, Shared};
 use java_exprs::Environment;
 use java_exprs::arguments::fit;
 use java_exprs::expression::value;
 use java_exprs::literals::text_of;
 use java_syntax::{CheckError, FieldTree};
-use sqlite_items::Boxed;
 use std::alloc::Global;
 
 // The initialiser of a field of class number `class`, checked and resolved.
@@ -43,7 +42,7 @@ fn optional_start(
     env: &Environment,
     class: u32,
     field: &FieldTree,
-) -> Result<Option<Boxed<Expr>>, CheckError>
+) -> Result<Option<Shared<Expr>>, CheckError>
     ensures core { IfOk result (λ core. core ≡ option_map (λ e. (attr env.now (maker_scope class) e).core) field.now.value) }
     ensures clear { OnOk result (spec.field_faults env.now class field.now ≡ []) }
     ensures fault { IfErr result (Refuses (spec.field_faults env.now class field.now)) }
@@ -51,7 +50,7 @@ fn optional_start(
     match &field.value {
         Some(e) => {
             let core = start(alloc, env, class, field, e)?;
-            Ok(Some(Boxed::new(alloc, core)?))
+            Ok(Some(Shared::new(alloc, core)?))
         }
         None => Ok(None),
     }

@@ -1,6 +1,7 @@
 //! The public call: the rules in turn, and the resolved program.
 
 ghost use Rattle.std.specs.Prelude.{◌≡◌, ◌++◌, [], IfErr, IfOk, OnOk};
+ghost use Rattle.core_tree.specs.BuiltIn.{first_class};
 ghost use Rattle.java_exprs.specs.Checks.{Refuses};
 ghost use Rattle.java_types.specs.Answers as answer;
 ghost use Rattle.java_types.specs.Files as spec;
@@ -42,8 +43,8 @@ fn program(
     tree: &FileTree,
 ) -> Result<Program, CheckError>
     ensures program { IfOk result (λ program. program ≡ spec.program_in env.now table.now tree.now) }
-    ensures clear { OnOk result (spec.of_members (spec.member_faults env.now) spec.first_class tree.now.classes ++ spec.of_made (spec.made_faults env.now) spec.first_class tree.now.classes ≡ []) }
-    ensures fault { IfErr result (Refuses (spec.of_members (answer.faults_in env.now) spec.first_class tree.now.classes ++ spec.of_made (spec.made_faults env.now) spec.first_class tree.now.classes)) }
+    ensures clear { OnOk result (spec.of_members (spec.member_faults env.now) first_class tree.now.classes ++ spec.of_made (spec.made_faults env.now) first_class tree.now.classes ≡ []) }
+    ensures fault { IfErr result (Refuses (spec.of_members (answer.faults_in env.now) first_class tree.now.classes ++ spec.of_made (spec.made_faults env.now) first_class tree.now.classes)) }
 {
     let mut bodies = resolve_members(alloc, env, tree.classes.as_slice())?;
     add_made_makers(alloc, env, tree.classes.as_slice(), &mut bodies.makers)?;

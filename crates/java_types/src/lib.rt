@@ -16,6 +16,7 @@ mod members;
 mod methods;
 mod modifiers;
 mod numbers;
+mod own_fields;
 mod parameters;
 mod scopes;
 mod slots;

@@ -2,6 +2,7 @@
 
 ghost use Rattle.std.specs.Prelude.{◌≡◌, ◌∷◌, ◌++◌, [], IfErr, IfOk, OnOk, flat_map};
 ghost use Rattle.std.specs.List.{list_any};
+ghost use Rattle.core_tree.specs.BuiltIn.{first_class};
 ghost use Rattle.java_syntax.specs.declared.class.Member.TheVariants as member;
 ghost use Rattle.java_exprs.specs.Checks.{Allows, Refuses};
 ghost use Rattle.java_types.specs.Answers as answer;
@@ -13,8 +14,8 @@ use crate::constructors::{made_maker, maker};
 use crate::fields::field;
 use crate::methods::method;
 use crate::modifiers::is_static;
-use crate::numbers::{FIRST_CLASS, following};
-use core_tree::{Maker, Method};
+use crate::numbers::following;
+use core_tree::{FIRST_CLASS, Maker, Method};
 use java_exprs::Environment;
 use java_syntax::{CheckError, ClassTree, FieldTree, Member};
 use sqlite_items::Items;
@@ -99,10 +100,10 @@ pub fn resolve_members(
     env: &Environment,
     classes: &[ClassTree],
 ) -> Result<Bodies, CheckError>
-    ensures methods { IfOk result (λ bodies. bodies.methods ≡ spec.of_members (spec.own_method env.now) spec.first_class classes.now) }
-    ensures makers { IfOk result (λ bodies. bodies.makers ≡ spec.of_members (spec.own_maker env.now) spec.first_class classes.now) }
-    ensures clear { OnOk result (spec.of_members (spec.member_faults env.now) spec.first_class classes.now ≡ []) }
-    ensures fault { IfErr result (Refuses (spec.of_members (answer.faults_in env.now) spec.first_class classes.now)) }
+    ensures methods { IfOk result (λ bodies. bodies.methods ≡ spec.of_members (spec.own_method env.now) first_class classes.now) }
+    ensures makers { IfOk result (λ bodies. bodies.makers ≡ spec.of_members (spec.own_maker env.now) first_class classes.now) }
+    ensures clear { OnOk result (spec.of_members (spec.member_faults env.now) first_class classes.now ≡ []) }
+    ensures fault { IfErr result (Refuses (spec.of_members (answer.faults_in env.now) first_class classes.now)) }
 {
     let mut bodies = Bodies {
         methods: Items::new(alloc),
@@ -157,8 +158,8 @@ pub fn add_made_makers(
     classes: &[ClassTree],
     makers: &mut Items<Maker>,
 ) -> Result<(), CheckError>
-    ensures makers { OnOk result (makers.new ≡ makers.old ++ spec.of_made (λ c k. body.made_maker env.now c ∷ []) spec.first_class classes.now) }
-    ensures fault { Allows (spec.of_made (spec.made_faults env.now) spec.first_class classes.now) result }
+    ensures makers { OnOk result (makers.new ≡ makers.old ++ spec.of_made (λ c k. body.made_maker env.now c ∷ []) first_class classes.now) }
+    ensures fault { Allows (spec.of_made (spec.made_faults env.now) first_class classes.now) result }
 {
     let mut class = FIRST_CLASS;
     for tree in classes {

@@ -18,7 +18,7 @@ use java_statements::statements::body;
 use java_syntax::{CheckError, MethodTree};
 use std::alloc::Global;
 
-/// A method of class number `class`, with its body, checked and resolved.
+/// A method of class number `class`, with its body, checked and resolved; it has no contract yet.
 ///
 /// # Errors
 /// `Fault` of a rule that its parameters or its body break, at the token where they do. `OutOfMemory` where there is no
@@ -48,5 +48,6 @@ pub fn method(
         answer,
         locals,
         body: steps,
+        contract: None,
     })
 }

@@ -4,9 +4,6 @@ ghost use Rattle.std.specs.Prelude.{◌≡◌, IfOk, suc};
 
 use std::alloc::AllocError;
 
-/// The number of the first class of the file.
-pub const FIRST_CLASS: u32 = 18;
-
 /// The number behind this one. `AllocError` where there is none.
 pub fn following(number: u32) -> Result<u32, AllocError>
     ensures { IfOk result (λ next. next ≡ suc number) }

@@ -9,7 +9,7 @@ ghost use Rattle.java_types.specs.Declarations as spec;
 ghost use Rattle.java_statements.specs.Statements as statement;
 
 use crate::types::known_type;
-use class_table::Shared;
+use core_tree::Shared;
 use java_exprs::Environment;
 use java_exprs::fault::fault;
 use java_names::Scope;

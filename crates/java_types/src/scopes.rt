@@ -5,8 +5,7 @@ ghost use Rattle.java_types.specs.Declarations as spec;
 
 use crate::modifiers::is_static;
 use crate::types::answer_type;
-use class_table::Shared;
-use core_tree::Ty;
+use core_tree::{Shared, Ty};
 use java_exprs::Environment;
 use java_names::Scope;
 use java_syntax::MethodTree;

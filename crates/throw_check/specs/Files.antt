@@ -21,7 +21,7 @@ use Rattle.java_exprs.specs.declared.environment.Environment.{Environment}
 use Rattle.java_exprs.specs.Lookups.{class_named, superclass_of}
 use Rattle.java_types.specs.Bodies.{Beginning, beginning}
 use Rattle.java_types.specs.Declarations.{method_scope, maker_scope}
-use Rattle.java_types.specs.Files.{first_class}
+use Rattle.core_tree.specs.BuiltIn.{first_class}
 use Rattle.throw_check.specs.Classes.{is_checked, is_declared}
 use Rattle.throw_check.specs.Points.{Point, types_env, points_at, maker_throws, expr_points}
 use Rattle.throw_check.specs.Statements.{with_local, optional_points, body_points}

@@ -9,8 +9,7 @@ ghost use Rattle.throw_check.specs.Files.{declared_classes, maker_classes, or_ma
 
 use crate::handlers::Handlers;
 use crate::locals::declare;
-use class_table::Shared;
-use core_tree::Ty;
+use core_tree::{Shared, Ty};
 use java_names::{Numbering, Scope, Symbols, declared_type};
 use java_syntax::{Ident, MakerTree, Member, MethodTree, Modifier, Mods, ParamTree, TypeTree};
 use sqlite_items::Items;

@@ -1,7 +1,7 @@
 //! Rule 23 of a file (JLS 11.2.3).
 
 ghost use Rattle.std.specs.Prelude.{◌≡◌, ◌+◌, [], IfErr, IfOk, flat_map};
-ghost use Rattle.java_types.specs.Files.{first_class};
+ghost use Rattle.core_tree.specs.BuiltIn.{first_class};
 ghost use Rattle.throw_check.specs.Points.{types_env};
 ghost use Rattle.throw_check.specs.Files.{class_faults, faults_from, faults_of, made_faults, member_faults};
 ghost use Rattle.throw_check.specs.Walks.{Handles};
@@ -10,6 +10,7 @@ use crate::bodies::{field, made_maker, maker, method};
 use crate::declared::{is_static, maker_lists, with_made};
 use crate::handlers::Handlers;
 use class_table::ClassTable;
+use core_tree::FIRST_CLASS;
 use java_names::{Numbering, Symbols, symbols};
 use java_syntax::{CheckError, ClassTree, FieldTree, FileTree, Member};
 use std::alloc::Global;
@@ -93,9 +94,6 @@ fn class(alloc: Global, symbols: &Symbols, number: u32, tree: &ClassTree) -> Res
     let handlers = Handlers::new(alloc, with_made(alloc, lists)?);
     members(alloc, symbols, number, &handlers, tree.members.as_slice())
 }
-
-/// The number of the first class of a file.
-const FIRST_CLASS: u32 = 18;
 
 // The next number. `OutOfMemory` where there is none.
 fn following(number: u32) -> Result<u32, CheckError>

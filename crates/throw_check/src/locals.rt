@@ -6,8 +6,7 @@ ghost use Rattle.throw_check.specs.Points.{types_env};
 ghost use Rattle.throw_check.specs.Statements.{with_local};
 ghost use Rattle.throw_check.specs.Walks as spec;
 
-use class_table::Shared;
-use core_tree::Ty;
+use core_tree::{Shared, Ty};
 use java_names::{Mark, Scope, Symbols, declared_type};
 use java_syntax::{Ident, LocalTree};
 use sqlite_items::Items;

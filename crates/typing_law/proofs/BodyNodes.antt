@@ -11,7 +11,7 @@ use Rattle.core_tree.specs.declared.stmt.Stmt.{Stmt as Step}
 use Rattle.core_tree.specs.declared.stmt.Stmt.TheVariants as step
 use Rattle.core_tree.specs.declared.program.Program.{Program}
 use Rattle.core_tree.specs.Types.{is_int, is_boolean, is_void, is_same_type}
-use Rattle.core_tree.specs.Typing.{Scope as CoreScope, PartType, fits, has_text, ints, booleans, type_of, target_type, is_update, if_there, is_condition, is_typed_stmt}
+use Rattle.core_tree.specs.Typing.{Scope as CoreScope, PartType, fits, has_text, ints, booleans, type_of, target_type, is_update, is_counting, if_there, is_condition, is_typed_stmt}
 use Rattle.core_tree.specs.WellTyped.{declared_numbers}
 use Rattle.core_tree.proofs.TypeNodes.{is_same_type-Void}
 use Rattle.core_tree.proofs.StmtNodes.{is_typed_stmt-Empty, is_typed_stmt-Assign, is_typed_stmt-Update, is_typed_stmt-Eval, is_typed_stmt-Print, is_typed_stmt-Return, is_typed_stmt-Break, is_typed_stmt-Continue, is_typed_stmt-Throw, declared_numbers-Empty, declared_numbers-Assign, declared_numbers-Update, declared_numbers-Eval, declared_numbers-Print, declared_numbers-Return, declared_numbers-Break, declared_numbers-Continue, declared_numbers-Throw}
@@ -97,7 +97,8 @@ module _ (env : Environment) (p : Program) (agrees : Agrees env p) where
 
     module _ (a e : Expr) (v : IsValue p cs (attr env s a)) (w : IsValue p cs (attr env s e)) (target_is : target_type p cs (target_of (attr env s a)) ≡ Some v.type) (inside : Bool) where
       update : (op : UpOp) → IsTrue (is_update op (Some v.type) (type_of p cs (attr env s e).core)) → IsTrue (is_typed_stmt p cs (step.Update (target_of (attr env s a)) op (Some (attr env s e).core)) inside)
-      update op is = ap (λ f. f inside) (is_typed_stmt-Update p cs (target_of (attr env s a)) op (Some (attr env s e).core)) ∙ ap (λ x. is_update op x (type_of p cs (attr env s e).core)) target_is ∙ is
+      update op is = ap (λ f. f inside) (is_typed_stmt-Update p cs (target_of (attr env s a)) op (Some (attr env s e).core)) ∙ ap (λ x. is_update op x (type_of p cs (attr env s e).core) && true) target_is
+          ∙ and_from (is_update op (Some v.type) (type_of p cs (attr env s e).core)) true is refl
 
       int_update : (op : UpOp) → ((x y : PartType) → is_update op x y ≡ ints x y) → both_11 is_int (attr env s a) (attr env s e) ≡ [] → IsTrue (is_typed_stmt p cs (step.Update (target_of (attr env s a)) op (Some (attr env s e).core)) inside)
       int_update op table none = update op (ints_update env p agrees s cs (attr env s a) (attr env s e) v w op table none)
@@ -131,14 +132,16 @@ module _ (env : Environment) (p : Program) (agrees : Agrees env p) where
         v : IsValue p cs (attr env s a)
         v = value a none
 
-        one : (op : UpOp) → ((x y : PartType) → is_update op x y ≡ ints x y) → IsTrue (is_typed_stmt p cs (step.Update (target_of (attr env s a)) op None) inside)
-        one op table =
-            ap (λ f. f inside) (is_typed_stmt-Update p cs (target_of (attr env s a)) op None) ∙ ap (λ x. is_update op x (Some ty.Int)) (target a v none none_18 none_20) ∙ table (Some v.type) (Some ty.Int)
-            ∙ and_from (is_int v.type) (is_int ty.Int) (wanted p cs is_int (attr env s a) v none_11) facts.is_int-Int
+        one : (op : UpOp) → ((x y : PartType) → is_update op x y ≡ ints x y) → IsTrue (is_counting op) → IsTrue (is_typed_stmt p cs (step.Update (target_of (attr env s a)) op None) inside)
+        one op table counts =
+            ap (λ f. f inside) (is_typed_stmt-Update p cs (target_of (attr env s a)) op None)
+            ∙ ap (λ x. is_update op x (Some ty.Int) && is_counting op) (target a v none none_18 none_20)
+            ∙ and_from (is_update op (Some v.type) (Some ty.Int)) (is_counting op)
+            (table (Some v.type) (Some ty.Int) ∙ and_from (is_int v.type) (is_int ty.Int) (wanted p cs is_int (attr env s a) v none_11) facts.is_int-Int) counts
 
         cases : (op : StepOp) → IsTrue (is_typed_stmt p cs (counted op (attr env s a)) inside)
-        cases count.Increment = one up.Add (λ x y. refl)
-        cases count.Decrement = one up.Sub (λ x y. refl)
+        cases count.Increment = one up.Add (λ x y. refl) refl
+        cases count.Decrement = one up.Sub (λ x y. refl) refl
 
     -- ---- expressions as statements
 

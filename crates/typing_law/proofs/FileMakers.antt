@@ -13,7 +13,7 @@ use Rattle.class_table.specs.Names.{Name}
 use Rattle.class_table.specs.Members.{makers_in, maker_row}
 use Rattle.java_names.specs.declared.numbers.Numbers.{Numbers}
 use Rattle.java_names.specs.declared.symbol.MakerSymbol.{MakerSymbol}
-use Rattle.java_names.specs.BuiltIn.{is_built_in}
+use Rattle.core_tree.specs.BuiltIn.{is_built_in}
 use Rattle.java_names.specs.Numbers.{made_for, numbers_after}
 use Rattle.java_names.specs.Symbols.{maker_symbol, maker_symbols, maker_arities, following}
 use Rattle.java_names.specs.Types.{declared_type, declared_types}

@@ -8,6 +8,7 @@ use Rattle.std.specs.Cmp.Lexicographic.{same_text}
 use Rattle.std.proofs.lemmas.Option.{same_Some}
 use Rattle.std.proofs.lemmas.Bool.{false≢true, eqb-true, or_left, or_right}
 use Rattle.std.proofs.lemmas.List.Quantifiers.{position-Some}
+use Rattle.core_tree.specs.declared.built_in.BuiltIn.TheVariants as built_in_class
 use Rattle.core_tree.specs.declared.ty.Ty.TheVariants as ty
 use Rattle.core_tree.specs.Typing.{is_throwable}
 use Rattle.java_syntax.specs.declared.class.FileTree.{FileTree}
@@ -20,7 +21,7 @@ use Rattle.class_table.specs.declared.row.ClassRow.{ClassRow}
 use Rattle.class_table.specs.declared.row.ClassTable.{ClassTable}
 use Rattle.class_table.specs.declared.row.MethodRow.{MethodRow}
 use Rattle.class_table.specs.Ancestors.{climb, line_at, superclasses}
-use Rattle.class_table.specs.BuiltIn.{built_in, throwable, get_message, string_type}
+use Rattle.class_table.specs.BuiltIn.{built_in, declaration_of, get_message, string_type}
 use Rattle.class_table.specs.Declarations.{declared_of}
 use Rattle.class_table.specs.Faults.{Clear}
 use Rattle.class_table.specs.Index.{signature_of}
@@ -77,11 +78,11 @@ no_params [] is = refl
 no_params (x ∷ xs) is = absurd (omega arith)
 
 -- Throwable
-throwable_row : (tree : FileTree) → slice_get (table_of tree).classes 1 ≡ Some (row_of (declared_of tree.classes) 1 throwable)
+throwable_row : (tree : FileTree) → slice_get (table_of tree).classes 1 ≡ Some (row_of (declared_of tree.classes) 1 (declaration_of built_in_class.Throwable))
 unfolding declared_of built_in
 throwable_row tree = refl
 
-throwable_line : (tree : FileTree) → (row_of (declared_of tree.classes) 1 throwable).line ≡ 1 ∷ 0 ∷ []
+throwable_line : (tree : FileTree) → (row_of (declared_of tree.classes) 1 (declaration_of built_in_class.Throwable)).line ≡ 1 ∷ 0 ∷ []
 unfolding declared_of built_in climb
 throwable_line tree = refl
 

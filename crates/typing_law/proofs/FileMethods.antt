@@ -25,7 +25,8 @@ use Rattle.java_names.specs.declared.numbers.Numbers.{Numbers}
 use Rattle.java_names.specs.declared.symbol.MethodSymbol.{MethodSymbol}
 use Rattle.java_names.specs.declared.symbol.Selector.{Selector}
 use Rattle.java_names.specs.declared.symbol.Symbols.{Symbols}
-use Rattle.java_names.specs.BuiltIn.{is_built_in, in_file}
+use Rattle.core_tree.specs.BuiltIn.{is_built_in}
+use Rattle.java_names.specs.BuiltIn.{in_file}
 use Rattle.java_names.specs.Lookups.{class_at, line_of, is_below, nearest, method_in, method_at}
 use Rattle.java_names.specs.Numbers.{made_for, numbers_after, first_numbers}
 use Rattle.java_names.specs.Selectors.{same_selector, selector_of, selectors_of}

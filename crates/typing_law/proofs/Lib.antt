@@ -44,6 +44,7 @@ mod WholeLists
 mod WholeClasses
 mod WholeMembers
 mod WholeMain
+mod WholeContracts
 mod WholeFields
 mod WholeBuiltIn
 mod WholePicked

@@ -4,6 +4,7 @@ use Rattle.std.specs.Prelude.{option_and_then, nat_eq, position}
 use Rattle.std.specs.List.{flat_map, list_all}
 use Rattle.std.proofs.lemmas.Option.{none-some, same_Some, option_and_then_some}
 use Rattle.std.proofs.lemmas.Bool.{ltb-true, ltb-false}
+use Rattle.core_tree.specs.declared.built_in.BuiltIn.TheVariants as built_in_class
 use Rattle.core_tree.specs.declared.ty.Ty.TheVariants as ty
 use Rattle.core_tree.specs.declared.program.Maker.{Maker}
 use Rattle.java_syntax.specs.declared.class.Member.{Member}
@@ -13,7 +14,7 @@ use Rattle.class_table.specs.Names.{Name}
 use Rattle.class_table.specs.Members.{makers_in, maker_row}
 use Rattle.java_names.specs.declared.numbers.Numbers.{Numbers}
 use Rattle.java_names.specs.declared.symbol.MakerSymbol.{MakerSymbol}
-use Rattle.java_names.specs.BuiltIn.{is_built_in}
+use Rattle.core_tree.specs.BuiltIn.{is_built_in}
 use Rattle.java_names.specs.Numbers.{made_for, numbers_after}
 use Rattle.java_names.specs.Symbols.{maker_symbol, maker_symbols, maker_arities, following}
 use Rattle.java_names.specs.Types.{declared_type, declared_types}
@@ -43,7 +44,7 @@ use Rattle.java_types.specs.Declarations.{declaration_faults}
 use Rattle.typing_law.specs.Agrees.{AgreesOnMaker}
 use Rattle.typing_law.proofs.Tables.{row_at, numbers_at, env_with, program_with, class_symbol_at}
 use Rattle.typing_law.proofs.Numbered.{get_behind, not_built_in}
-use Rattle.class_table.specs.BuiltIn.{built_in, exception_makers, string_type, object, throwable, exception}
+use Rattle.class_table.specs.BuiltIn.{built_in, declaration_of, exception_makers, string_type}
 use Rattle.class_table.specs.BuiltIn as classes
 use Rattle.core_tree.proofs.TypeNodes.{is_value_type-Text}
 use Rattle.typing_law.proofs.FileMakers.{shifted, maker_lengths, arity_of, found_by, written_found, written_agrees}

@@ -13,7 +13,7 @@ use Rattle.class_table.specs.BuiltIn.{built_in}
 use Rattle.class_table.specs.Declarations.{declaration, declarations, declared_of}
 use Rattle.class_table.specs.Table.{row_of, rows_from}
 use Rattle.java_names.specs.declared.numbers.Numbers.{Numbers}
-use Rattle.java_names.specs.BuiltIn.{is_built_in}
+use Rattle.core_tree.specs.BuiltIn.{is_built_in}
 use Rattle.java_names.specs.Numbers.{numbers_after}
 use Rattle.java_types.specs.Files.{of_members}
 use Rattle.typing_law.proofs.Scopes.{get_before}

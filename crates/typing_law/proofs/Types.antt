@@ -20,7 +20,7 @@ class_below : (s : Symbols) (classes : List Class) → ((c d : ℕ) → is_below
 class_below s classes agree c None = refl
 class_below s classes agree c (Some d) = agree c d
 
-same_node : (s : Symbols) (classes : List Class) → ((c d : ℕ) → is_below s c d ≡ is_subclass classes c d) → (x : Ty-F (Ty → Bool)) (to : Ty) → rules.assignable_node s x to ≡ core.assignable_node classes x to
+same_node : (s : Symbols) (classes : List Class) → ((c d : ℕ) → is_below s c d ≡ is_subclass classes c d) → (x : Ty-F (Ty → Bool)) (to : Ty) → rules.assignable_node s x to ≡ core.assignable_node (is_subclass classes) x to
 same_node s classes agree Ty-F.Int to = refl
 same_node s classes agree Ty-F.Bool to = refl
 same_node s classes agree Ty-F.Text to = refl
@@ -30,5 +30,5 @@ same_node s classes agree Ty-F.Null to = or_order (is_null to) (is_string to) (i
 same_node s classes agree Ty-F.Void to = refl
 
 pub same_assignable : (s : Symbols) (classes : List Class) → ((c d : ℕ) → is_below s c d ≡ is_subclass classes c d) → (a b : Ty) → rules.is_assignable s a b ≡ core.is_assignable classes a b
-unfolding rules.is_assignable core.is_assignable
+unfolding rules.is_assignable core.is_assignable core.is_assignable_by
 same_assignable s classes agree a b = ap (λ node. fold-Ty (Ty → Bool) node a b) (fun_ext (λ x. fun_ext (λ to. same_node s classes agree x to)))

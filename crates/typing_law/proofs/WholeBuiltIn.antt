@@ -2,6 +2,7 @@
 use Rattle.std.proofs.Common.{◌≡◌, ◌∙◌, ℕ, zero, suc, ◌+◌, ◌<◌, ◌≤◌, List, [], ◌∷◌, codes, length, map, take, reverse, Option, Some, slice_get, refl, sym, ap, arith}
 use Rattle.std.specs.Prelude.{unwrap_or}
 use Rattle.std.specs.List.{flat_map}
+use Rattle.core_tree.specs.declared.built_in.BuiltIn.TheVariants as built_in_class
 use Rattle.core_tree.specs.declared.program.Field.{Field}
 use Rattle.core_tree.specs.BuiltIn.{built_in_classes, message_field}
 use Rattle.core_tree.specs.WellTyped.{Row}
@@ -11,7 +12,7 @@ use Rattle.class_table.specs.declared.declaration.Declaration.{Declaration}
 use Rattle.class_table.specs.declared.row.ClassRow.{ClassRow}
 use Rattle.class_table.specs.declared.row.ClassTable.{ClassTable}
 use Rattle.class_table.specs.Ancestors.{climb, line_at}
-use Rattle.class_table.specs.BuiltIn.{built_in, object, throwable, exception}
+use Rattle.class_table.specs.BuiltIn.{built_in, declaration_of}
 use Rattle.class_table.specs.Declarations.{declared_of}
 use Rattle.class_table.specs.Table.{row_of, table_of}
 use Rattle.class_table.specs.TableFacts.{IsTable}
@@ -65,24 +66,24 @@ module _ (tree : FileTree) (constants : List (ℕ × Option Literal)) (none : of
 
   built_fields : (c : ℕ) → c < 18 → fields_of env tree c ≡ first_fields c
   unfolding declared_of built_in climb first_fields
-  built_fields zero below = of_row 0 object refl refl
-  built_fields (suc zero) below = of_row 1 throwable refl refl
-  built_fields (suc (suc zero)) below = of_row 2 (exception (codes "Exception") 1) refl refl
-  built_fields (suc (suc (suc zero))) below = of_row 3 (exception (codes "RuntimeException") 2) refl refl
-  built_fields (suc (suc (suc (suc zero)))) below = of_row 4 (exception (codes "Error") 1) refl refl
-  built_fields (suc (suc (suc (suc (suc zero))))) below = of_row 5 (exception (codes "ArithmeticException") 3) refl refl
-  built_fields (suc (suc (suc (suc (suc (suc zero)))))) below = of_row 6 (exception (codes "NullPointerException") 3) refl refl
-  built_fields (suc (suc (suc (suc (suc (suc (suc zero))))))) below = of_row 7 (exception (codes "NegativeArraySizeException") 3) refl refl
-  built_fields (suc (suc (suc (suc (suc (suc (suc (suc zero)))))))) below = of_row 8 (exception (codes "FallbackError") 4) refl refl
-  built_fields (suc (suc (suc (suc (suc (suc (suc (suc (suc zero))))))))) below = of_row 9 (exception (codes "ClassCastException") 3) refl refl
-  built_fields (suc (suc (suc (suc (suc (suc (suc (suc (suc (suc zero)))))))))) below = of_row 10 (exception (codes "ArrayStoreException") 3) refl refl
-  built_fields (suc (suc (suc (suc (suc (suc (suc (suc (suc (suc (suc zero))))))))))) below = of_row 11 (exception (codes "IndexOutOfBoundsException") 3) refl refl
-  built_fields (suc (suc (suc (suc (suc (suc (suc (suc (suc (suc (suc (suc zero)))))))))))) below = of_row 12 (exception (codes "ArrayIndexOutOfBoundsException") 11) refl refl
-  built_fields (suc (suc (suc (suc (suc (suc (suc (suc (suc (suc (suc (suc (suc zero))))))))))))) below = of_row 13 (exception (codes "IllegalArgumentException") 3) refl refl
-  built_fields (suc (suc (suc (suc (suc (suc (suc (suc (suc (suc (suc (suc (suc (suc zero)))))))))))))) below = of_row 14 (exception (codes "IllegalStateException") 3) refl refl
-  built_fields (suc (suc (suc (suc (suc (suc (suc (suc (suc (suc (suc (suc (suc (suc (suc zero))))))))))))))) below = of_row 15 (exception (codes "UnsupportedOperationException") 3) refl refl
-  built_fields (suc (suc (suc (suc (suc (suc (suc (suc (suc (suc (suc (suc (suc (suc (suc (suc zero)))))))))))))))) below = of_row 16 (exception (codes "StackOverflowError") 4) refl refl
-  built_fields (suc (suc (suc (suc (suc (suc (suc (suc (suc (suc (suc (suc (suc (suc (suc (suc (suc zero))))))))))))))))) below = of_row 17 (exception (codes "RequiresError") 4) refl refl
+  built_fields zero below = of_row 0 (declaration_of built_in_class.Object) refl refl
+  built_fields (suc zero) below = of_row 1 (declaration_of built_in_class.Throwable) refl refl
+  built_fields (suc (suc zero)) below = of_row 2 (declaration_of built_in_class.Exception) refl refl
+  built_fields (suc (suc (suc zero))) below = of_row 3 (declaration_of built_in_class.RuntimeException) refl refl
+  built_fields (suc (suc (suc (suc zero)))) below = of_row 4 (declaration_of built_in_class.Error) refl refl
+  built_fields (suc (suc (suc (suc (suc zero))))) below = of_row 5 (declaration_of built_in_class.ArithmeticException) refl refl
+  built_fields (suc (suc (suc (suc (suc (suc zero)))))) below = of_row 6 (declaration_of built_in_class.NullPointerException) refl refl
+  built_fields (suc (suc (suc (suc (suc (suc (suc zero))))))) below = of_row 7 (declaration_of built_in_class.NegativeArraySizeException) refl refl
+  built_fields (suc (suc (suc (suc (suc (suc (suc (suc zero)))))))) below = of_row 8 (declaration_of built_in_class.FallbackError) refl refl
+  built_fields (suc (suc (suc (suc (suc (suc (suc (suc (suc zero))))))))) below = of_row 9 (declaration_of built_in_class.ClassCastException) refl refl
+  built_fields (suc (suc (suc (suc (suc (suc (suc (suc (suc (suc zero)))))))))) below = of_row 10 (declaration_of built_in_class.ArrayStoreException) refl refl
+  built_fields (suc (suc (suc (suc (suc (suc (suc (suc (suc (suc (suc zero))))))))))) below = of_row 11 (declaration_of built_in_class.IndexOutOfBoundsException) refl refl
+  built_fields (suc (suc (suc (suc (suc (suc (suc (suc (suc (suc (suc (suc zero)))))))))))) below = of_row 12 (declaration_of built_in_class.ArrayIndexOutOfBoundsException) refl refl
+  built_fields (suc (suc (suc (suc (suc (suc (suc (suc (suc (suc (suc (suc (suc zero))))))))))))) below = of_row 13 (declaration_of built_in_class.IllegalArgumentException) refl refl
+  built_fields (suc (suc (suc (suc (suc (suc (suc (suc (suc (suc (suc (suc (suc (suc zero)))))))))))))) below = of_row 14 (declaration_of built_in_class.IllegalStateException) refl refl
+  built_fields (suc (suc (suc (suc (suc (suc (suc (suc (suc (suc (suc (suc (suc (suc (suc zero))))))))))))))) below = of_row 15 (declaration_of built_in_class.UnsupportedOperationException) refl refl
+  built_fields (suc (suc (suc (suc (suc (suc (suc (suc (suc (suc (suc (suc (suc (suc (suc (suc zero)))))))))))))))) below = of_row 16 (declaration_of built_in_class.StackOverflowError) refl refl
+  built_fields (suc (suc (suc (suc (suc (suc (suc (suc (suc (suc (suc (suc (suc (suc (suc (suc (suc zero))))))))))))))))) below = of_row 17 (declaration_of built_in_class.RequiresError) refl refl
   built_fields (suc (suc (suc (suc (suc (suc (suc (suc (suc (suc (suc (suc (suc (suc (suc (suc (suc (suc c)))))))))))))))))) below = too_great c below
 
   pub first_rows : map typed.row_of (take (length built_in_classes) (program_with table tree constants).classes) ≡ map typed.row_of built_in_classes

@@ -13,6 +13,7 @@
 --   methods       WholeMembers.methods_typed: declarations (rule 10) and bodies (rules 10 to 21)
 --   makers        WholeMembers.makers_typed: the same, and the constructors that are made
 --   main          WholeMain.main_there: `static void main` with one parameter of type `String[]` (rule 7)
+--   contracts     WholeContracts.contracts_typed: no method has one yet
 -- All together are WholeProgram.law.
 --
 -- This file: tests of all items of a list, and of what the members of all classes give.

@@ -12,7 +12,8 @@ use Rattle.class_table.specs.Members.{is_static}
 use Rattle.class_table.specs.Names.{Name}
 use Rattle.class_table.specs.Table.{table_of}
 use Rattle.java_names.specs.declared.symbol.Selector.{Selector}
-use Rattle.java_names.specs.BuiltIn.{is_built_in, in_file}
+use Rattle.core_tree.specs.BuiltIn.{is_built_in}
+use Rattle.java_names.specs.BuiltIn.{in_file}
 use Rattle.java_names.specs.Chosen.{picked, first_picked, methods_at}
 use Rattle.java_names.specs.Numbers.{first_numbers}
 use Rattle.java_names.specs.Selectors.{same_selector, selector_of}

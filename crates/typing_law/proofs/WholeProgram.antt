@@ -29,6 +29,7 @@ use Rattle.typing_law.proofs.WholeBuiltIn.{first_rows}
 use Rattle.typing_law.proofs.WholeFields.{all_inherited, few_fields, fields_typed}
 use Rattle.typing_law.proofs.WholeMembers.{methods_typed, makers_typed}
 use Rattle.typing_law.proofs.WholeMain.{main_there}
+use Rattle.typing_law.proofs.WholeContracts.{contracts_typed}
 use Rattle.typing_law.proofs.WholeChosen.{all_chosen, overrides_right, message_right}
 
 module _ (tree : FileTree) (constants : List (ℕ × Option Literal)) (is_table : IsTable (table_of tree)) (clear : Clear (Breaks tree))
@@ -70,6 +71,7 @@ module _ (tree : FileTree) (constants : List (ℕ × Option Literal)) (is_table 
     methods = methods_typed tree constants none clear agrees bodies;
     makers = makers_typed tree constants none clear agrees bodies made;
     main = main_there tree constants clear;
+    contracts = contracts_typed tree constants;
   }
 
 -- where no declaration breaks a rule, nothing but bodies can

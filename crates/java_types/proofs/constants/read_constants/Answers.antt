@@ -2,7 +2,7 @@ use Rattle.std.proofs.Common.{rules}
 use Rattle.java_exprs.specs.Checks.{Refuses}
 use Rattle.java_types.specs.Answers.{read_in}
 use Rattle.java_types.specs.Constants.{read_classes}
-use Rattle.java_types.specs.Files.{first_class}
+use Rattle.core_tree.specs.BuiltIn.{first_class}
 use Rattle.java_types.proofs.ReadingLemmas.{same_after, classes_end, class_read, class_refused}
 use Rattle.java_types.proofs.constants.read_constants.Goals as goal
 

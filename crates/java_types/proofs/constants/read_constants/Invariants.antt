@@ -1,7 +1,7 @@
 use Rattle.std.proofs.Common.{◌≡◌, drop}
 use Rattle.java_types.specs.Answers.{read_in}
 use Rattle.java_types.specs.Constants.{read_classes, with_constants}
-use Rattle.java_types.specs.Files.{first_class}
+use Rattle.core_tree.specs.BuiltIn.{first_class}
 use Rattle.java_types.proofs.constants.read_constants.Given as goal
 
 abbrev pub invariant-loop-tree : goal.invariant-loop-tree

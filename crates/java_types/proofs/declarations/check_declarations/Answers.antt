@@ -1,7 +1,8 @@
 use Rattle.std.proofs.Common.{rules}
 use Rattle.java_exprs.specs.Checks.{Refuses}
 use Rattle.java_types.specs.Declarations.{declaration_faults}
-use Rattle.java_types.specs.Files.{first_class, of_members}
+use Rattle.core_tree.specs.BuiltIn.{first_class}
+use Rattle.java_types.specs.Files.{of_members}
 use Rattle.java_types.proofs.LoopLemmas.{refuses_class}
 use Rattle.java_types.proofs.declarations.check_declarations.Goals as goal
 

@@ -1,6 +1,7 @@
 use Rattle.std.proofs.Common.{◌≡◌, drop}
 use Rattle.java_types.specs.Declarations.{declaration_faults}
-use Rattle.java_types.specs.Files.{first_class, of_members}
+use Rattle.core_tree.specs.BuiltIn.{first_class}
+use Rattle.java_types.specs.Files.{of_members}
 use Rattle.java_types.proofs.declarations.check_declarations.Given as goal
 
 abbrev pub invariant-loop-tree : goal.invariant-loop-tree

@@ -1,7 +1,8 @@
 use Rattle.std.proofs.Common.{◌++◌, rules}
 use Rattle.java_exprs.specs.Checks.{Refuses}
 use Rattle.java_types.specs.Answers.{faults_in}
-use Rattle.java_types.specs.Files.{first_class, made_faults, of_made, of_members}
+use Rattle.core_tree.specs.BuiltIn.{first_class}
+use Rattle.java_types.specs.Files.{made_faults, of_made, of_members}
 use Rattle.java_types.proofs.FileLemmas.{refuses_nothing}
 use Rattle.java_types.proofs.file.program.Goals as goal
 

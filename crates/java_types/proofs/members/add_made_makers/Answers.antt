@@ -1,7 +1,8 @@
 use Rattle.std.proofs.Common.{[], ◌∷◌, sym, rules}
 use Rattle.java_exprs.specs.Checks.{Refuses}
 use Rattle.java_types.specs.Bodies.{made_maker}
-use Rattle.java_types.specs.Files.{first_class, made_faults, of_made}
+use Rattle.core_tree.specs.BuiltIn.{first_class}
+use Rattle.java_types.specs.Files.{made_faults, of_made}
 use Rattle.java_types.proofs.LoopLemmas.{refuses_made}
 use Rattle.java_types.proofs.GatherLemmas.{next_made}
 use Rattle.java_types.proofs.members.add_made_makers.Goals as goal

@@ -1,6 +1,7 @@
 use Rattle.std.proofs.Common.{◌≡◌, [], ◌∷◌, ◌++◌, drop}
 use Rattle.java_types.specs.Bodies.{made_maker}
-use Rattle.java_types.specs.Files.{first_class, made_faults, of_made}
+use Rattle.core_tree.specs.BuiltIn.{first_class}
+use Rattle.java_types.specs.Files.{made_faults, of_made}
 use Rattle.java_types.proofs.members.add_made_makers.Given as goal
 
 abbrev pub invariant-loop-tree : goal.invariant-loop-tree

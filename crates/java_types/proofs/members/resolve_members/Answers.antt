@@ -2,7 +2,8 @@ use Rattle.std.proofs.Common.{◌∙◌, sym, ap, arith, rules}
 use Rattle.java_exprs.specs.Checks.{Refuses}
 use Rattle.java_types.specs.declared.members.Bodies.{Bodies}
 use Rattle.java_types.specs.Answers.{faults_in}
-use Rattle.java_types.specs.Files.{first_class, member_faults, of_members}
+use Rattle.core_tree.specs.BuiltIn.{first_class}
+use Rattle.java_types.specs.Files.{member_faults, of_members}
 use Rattle.java_types.proofs.GatherLemmas.{class_next, classes_end, next_class, refuses_numbered}
 use Rattle.java_types.proofs.members.resolve_members.Goals as goal
 

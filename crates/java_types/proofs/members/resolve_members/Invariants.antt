@@ -1,6 +1,7 @@
 use Rattle.std.proofs.Common.{◌≡◌, ◌+◌, [], drop}
 use Rattle.java_types.specs.Gathered.{with_classes}
-use Rattle.java_types.specs.Files.{first_class, member_faults, of_members}
+use Rattle.core_tree.specs.BuiltIn.{first_class}
+use Rattle.java_types.specs.Files.{member_faults, of_members}
 use Rattle.java_types.proofs.members.resolve_members.Given as goal
 
 abbrev pub invariant-loop-tree : goal.invariant-loop-tree

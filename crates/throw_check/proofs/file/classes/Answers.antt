@@ -2,7 +2,7 @@ use Rattle.std.proofs.Common.{◌≡◌, ◌∙◌, ℕ, ◌+◌, List, [], ◌�
 use Rattle.std.proofs.lemmas.Grind.{common_steps}
 use Rattle.java_syntax.specs.declared.class.ClassTree.{ClassTree}
 use Rattle.java_syntax.specs.declared.fault.Fault.{Fault}
-use Rattle.java_types.specs.Files.{first_class}
+use Rattle.core_tree.specs.BuiltIn.{first_class}
 use Rattle.java_exprs.specs.Checks.{Refuses}
 use Rattle.java_exprs.proofs.RulesLemmas.{refuses_left}
 use Rattle.throw_check.specs.Files.{class_faults, faults_from}

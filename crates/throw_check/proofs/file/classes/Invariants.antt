@@ -1,5 +1,5 @@
 use Rattle.std.proofs.Common.{◌≡◌, drop}
-use Rattle.java_types.specs.Files.{first_class}
+use Rattle.core_tree.specs.BuiltIn.{first_class}
 use Rattle.throw_check.specs.Files.{faults_from}
 use Rattle.throw_check.specs.Points.{types_env}
 use Rattle.throw_check.proofs.file.classes.Given as goal

@@ -2,7 +2,7 @@ use Rattle.std.proofs.Common.{flat_map, rules}
 use Rattle.java_exprs.specs.Checks.{Refuses}
 use Rattle.java_types.specs.Files.{member_faults}
 use Rattle.java_statements.proofs.ListLemmas.{refuses_item}
-use Rattle.java_types.proofs.classes.add_members.Goals as goal
+use Rattle.java_types.proofs.own_fields.fields_in.Goals as goal
 
 pub returns-in_err-add_member-clause-fault : goal.returns-in_err-add_member-clause-fault
 returns-in_err-add_member-clause-fault c =

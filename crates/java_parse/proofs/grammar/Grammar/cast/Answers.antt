@@ -23,4 +23,4 @@ returns-in_err-operand-clause-reads g c =
 pub returns-clause-reads : goal.returns-clause-reads
 unfolding cast
 returns-clause-reads g c =
-    rw (c.in_ok-ty.ensures.reads, sym c.if-not-castable.ensures, c.in_ok-expect.ensures, c.in_ok-operand.ensures.reads, c.in_ok-cast.ensures, c.max.ensures, c.height-2.ensures) refl
+    rw (c.in_ok-ty.ensures.reads, sym c.if-not-castable.ensures, c.in_ok-expect.ensures, c.in_ok-operand.ensures.reads, c.in_ok-cast.ensures, c.max-height.ensures, c.height-height.ensures) refl

@@ -12,5 +12,7 @@ returns-clause-reads g c =
       sym c.binds.ensures.value,
       not_below 8 c.binds.result c.if-binds-gt8.false,
       c.in_ok-instance_of.ensures,
+      c.max-height.ensures,
+      c.height-height.ensures,
     )
     refl

@@ -9,7 +9,7 @@ use Rattle.core_tree.specs.declared.expr.Expr.TheViews as view
 use Rattle.core_tree.specs.declared.program.Program.{Program}
 use Rattle.primitive_operators.specs.declared.scalar.Scalar.{Scalar}
 use Rattle.evaluation.specs.Values.{value_of}
-use Rattle.java_syntax.specs.declared.name.Ident.{Ident}
+use Rattle.token_reading.specs.declared.name.Ident.{Ident}
 use Rattle.java_syntax.specs.declared.expression.Expr.TheOpen.{Expr-F}
 use Rattle.java_names.specs.declared.scope.Scope.{Scope}
 use Rattle.java_names.specs.declared.symbol.FieldSymbol.{FieldSymbol}
@@ -83,7 +83,7 @@ module _ (p : Program) (env : Environment) (constants : KnowsConstants env p) wh
       of_local (Some n) is = rw is tt
       of_local None is = of_member is (member_of env s.class x.name) refl
 
-  -- behind a class
+  -- after a class
   abbrev behind : ℕ → Ident → Naming
   behind c f = record { through = through.Class; class = c; object = core.This; name = f }
 

@@ -24,7 +24,7 @@ pub record Computes (p : Program) (e : Expr) (v : Value) : Type 0 where
   pub steps : ℕ
   pub ends : (depth more : ℕ) (w : World) → steps ≤ depth → w.fuel ≡ steps + more → (meaning p depth).expr e w ≡ gives (outcome.Value v) (record w { fuel = more })
 
--- a text is no longer than a constant's may be
+-- a text isn't longer than a constant's may be
 abbrev pub IsShort : Scalar → Type 0
 IsShort (scalar.Text t) = code_units t ≤ most_units
 IsShort _ = Unit {0}

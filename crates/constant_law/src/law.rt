@@ -12,9 +12,10 @@ ghost use Rattle.java_exprs.specs.Checks.{attr};
 ghost use Rattle.java_exprs.specs.Constants.{folded_of};
 ghost use Rattle.constant_law.specs.Computes.{Computes, KnowsConstants};
 
-/// An initialiser that breaks no rule and has a constant value resolves to an expression which evaluates to that value, in every
-/// program. What is asked of the environment is what is so of each file that breaks no rule: superclasses are those of the
-/// program's classes, and a constant that is found has a value of its type, which is no text that is too long.
+/// An initialiser that breaks no rule and has a constant value resolves to an expression which evaluates to that value,
+/// in every program. What is asked of the environment is what is so of each file that breaks no rule: superclasses are
+/// those of the program's classes, and a constant that is found has a value of its type, which is no text that is too
+/// long.
 pub fn initialisers_compute()
     ensures { (p : Program) (env : Environment) (s : Scope) (e : Expr) (v : Scalar) → KnowsConstants env p → (attr env s e).faults ≡ []
         → folded_of env s e ≡ folded.Gives v → Computes p (attr env s e).core (value_of v) }

@@ -20,7 +20,7 @@ use sqlite_items::Boxed;
 use std::alloc::{AllocError, Global};
 
 /// A value of the type that is spelled, as a cast gives; `None` where its name is unknown (JLS 15.16). `AllocError`
-/// where there is no memory left, or where the type has more than 255 pairs of brackets.
+/// where memory runs out, or where the type has more than 255 pairs of brackets.
 pub fn spelled(
     alloc: Global,
     symbols: &Symbols,

@@ -81,7 +81,7 @@ fn element_core(alloc: Global, a: Expr, i: Expr) -> Result<Expr, AllocError>
 ///
 /// # Errors
 /// `Fault` of rule 11 at the first token of `a` where that isn't an array, and of `i` where that is no int.
-/// `OutOfMemory` where there is no memory left.
+/// `OutOfMemory` where memory runs out.
 pub fn element(
     alloc: Global,
     env: &Environment,

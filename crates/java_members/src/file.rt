@@ -19,8 +19,8 @@ use java_syntax::{CheckError, FileTree};
 use sqlite_items::Items;
 use std::alloc::{AllocError, Global};
 
-/// What is known of a file, given the table of its classes, before its constants are read. `AllocError` where memory runs
-/// out.
+/// What is known of a file, given the table of its classes, before its constants are read. `AllocError` where memory
+/// runs out.
 pub fn environment(
     alloc: Global,
     table: &ClassTable,
@@ -63,9 +63,9 @@ fn program(
 /// constants are read, to which these are added. `java_types` adds that the program is well typed.
 ///
 /// # Errors
-/// `Fault` with the number of a rule of 10 to 21 and the number of a token, counted from 0, at which that rule is broken:
-/// any one of them where several are, but of declarations alone where one of these breaks a rule. `OutOfMemory` where
-/// memory runs out.
+/// `Fault` with the number of a rule of 10 to 21 and the number of a token, counted from 0, at which that rule is
+/// broken: any one of them where several are, but of declarations alone where one of these breaks a rule. `OutOfMemory`
+/// where memory runs out.
 pub fn resolve_file(
     alloc: Global,
     env: &mut Environment,

@@ -48,7 +48,7 @@ fn declare_param(
 ///
 /// # Errors
 /// `Fault` of rule 10 at the name of a type that is unknown, or of a parameter whose name another has. `OutOfMemory`
-/// where there is no memory left. After an error the scope serves no more.
+/// where memory runs out. After an error the scope serves no more.
 #[tactic(auto, using(java_exprs::proofs::RulesLemmas::both_places, java_exprs::proofs::RulesLemmas::joins), unfolding(crate::specs::Declarations::with_params, crate::specs::Declarations::params_10))]
 pub fn declare_params(
     alloc: Global,

@@ -3,7 +3,7 @@ use Rattle.std.proofs.Common.{◌≡◌, sym, subst, [], Result, Ok, Err, IfOk, 
 use Rattle.core_tree.specs.declared.program.Program.{Program}
 use Rattle.core_tree.specs.WellTyped.{IsWellTyped}
 use Rattle.java_syntax.specs.declared.class.FileTree.{FileTree}
-use Rattle.java_syntax.specs.declared.fault.CheckError.{CheckError}
+use Rattle.token_reading.specs.declared.fault.CheckError.{CheckError}
 use Rattle.class_table.specs.declared.row.ClassTable.{ClassTable}
 use Rattle.class_table.specs.Table.{table_of}
 use Rattle.class_table.specs.TableFacts.{IsTable}

@@ -37,7 +37,8 @@ pub fn resolve(alloc: Global, table: &ClassTable, tree: &FileTree) -> Result<Pro
     resolve_in(alloc, &mut env, table, tree)
 }
 
-/// The same, given what is known of the file before its constants are read. These are added to it, and its symbols stay.
+/// The same, given what is known of the file before its constants are read. These are added to it, and its symbols
+/// stay.
 ///
 /// # Errors
 /// Those of `resolve`.

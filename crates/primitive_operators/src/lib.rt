@@ -1,10 +1,11 @@
 //! What operators make of ints, booleans and texts, for runs and for the values of constants.
 //!
-//! `specs/Operators` says what an operator makes of scalars, which are the values that aren't objects, and `specs/Texts`
-//! which text is shown of one. Both the evaluation of a program and the rules for constants stand on these definitions.
-//! Operators on ints and booleans take constant time and no memory.
+//! `specs/Operators` says what an operator makes of scalars, which are the values that aren't objects, and
+//! `specs/Texts` which text is shown of one. Both the evaluation of a program and the rules for constants stand on
+//! these definitions. Operators on ints and booleans take constant time and no memory.
 //!
-//! Read `scalar`, `scalar_ref` and `applied`, then `ints`, `booleans` and `operators`, then `concatenation` and `update`.
+//! Read `scalar`, `scalar_ref` and `applied`, then `ints`, `booleans` and `operators`, then `concatenation` and
+//! `update`.
 #![tactic(auto)]
 
 mod applied;

@@ -17,8 +17,8 @@ pub fn unary_value(op: UnOp, a: ScalarRef) -> Applied
     }
 }
 
-/// What an operator makes of two values (JLS 15.17 to 15.22): between two ints, between two booleans, and `==` and `!=` of a
-/// text and null or of two nulls. It joins no texts.
+/// What an operator makes of two values (JLS 15.17 to 15.22): between two ints, between two booleans, and `==` and `!=`
+/// of a text and null or of two nulls. It joins no texts.
 pub fn binary_value(op: BinOp, a: ScalarRef, b: ScalarRef) -> Applied
     ensures { result ≡ binary_value op (viewed a.entry) (viewed b.entry) }
 {

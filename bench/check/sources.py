@@ -67,6 +67,16 @@ def chain_of_classes(most):
     return before + "".join(one(i) for i in range(998))
 
 
+def subclasses(most):
+    """900 classes that inherit a field with one long initialiser."""
+    before = "class Main {\n    static void main(String[] args) { }\n}\n"
+    after = "".join(f"class B{i} extends A {{ }}\n" for i in range(900))
+    count = (most - len(before) - len(after) - 100) // len("int a99999, 1, ")
+    params = ", ".join(f"int a{i}" for i in range(count))
+    arguments = ", ".join(["1"] * count)
+    return f"{before}class A {{\n    int f = sum({arguments});\n    int sum({params}) {{ return a0; }}\n}}\n{after}"
+
+
 SHAPES = {
     "statements": statements,
     "locals of one body": locals_of_one_body,
@@ -77,4 +87,5 @@ SHAPES = {
     "try statements": catches,
     "constants": constants,
     "998 classes in a chain": chain_of_classes,
+    "900 subclasses below a long initialiser": subclasses,
 }

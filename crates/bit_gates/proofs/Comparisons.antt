@@ -6,7 +6,7 @@ use Rattle.std.proofs.Math.Nat.{pow-suc, pow-le-pow_right}
 use Rattle.std.proofs.lemmas.Nat.{one_shl}
 use Rattle.std.proofs.lemmas.List.{length-map, length-take-le, take-map, map_push, length_push}
 use Rattle.std.proofs.lemmas.Int.{ints}
-use Rattle.std.proofs.lemmas.Bool.{eqb-true, eqb-false, ltb-true, cases_lt}
+use Rattle.std.proofs.lemmas.Bool.{ltb-true, cases_lt}
 use Rattle.gate_net.specs.Net.{Always, IsNode, Continues, differ, node_value}
 use Rattle.gate_net.specs.declared.gate.Gate.{Gate}
 use Rattle.gate_net.specs.declared.node.Node.{Node}
@@ -19,6 +19,7 @@ use Rattle.bit_gates.specs.declared.digits.Rule.TheVariants.{Difference}
 use Rattle.bit_gates.proofs.Wholes.{InRange, whole-split, order-cases, equality, negation-whole, constant-whole, unsigned-push}
 use Rattle.bit_gates.proofs.Widths.{HasDigits, digits_of, in-range, sign-last, width-le}
 use Rattle.bit_gates.proofs.Steps.{unsigned-lt}
+use Rattle.bit_gates.proofs.Sums.{parity}
 
 sign-at : (value : Node → Bool) (xs : List Node) (n : ℕ) → length xs ≡ suc n
     → sign (map value xs) ≡ value (get_or xs n (record { place = 0 }))
@@ -57,9 +58,6 @@ pub equal-value : (value : Node → Bool) (xs ys : List Node) (n : ℕ) (d r : B
     → r ≡ int_eq (whole (map value xs)) (whole (map value ys))
 equal-value value xs ys n d r h k j e = equality (map value xs) (map value ys) n d r (length-map xs value ∙ h) (length-map ys value ∙ k) j e
 
-abs-negated : (z : ℤ) → unsigned_abs (pos 0 -ℤ z) ≤ unsigned_abs z
-abs-negated z = grind arith
-
 negative : (z : ℤ) → pos 0 -ℤ z ≡ neg_ℤ z
 negative z = grind arith
 
@@ -76,15 +74,11 @@ neg-value value a net ds is small within size j =
     let w : length a.nodes.items ≡ suc n = is.width ∙ p.1.width in
     let balance : unsigned (map value ds) + unsigned (map value a.nodes.items) ≡ bit j.0 * 2 ^ suc n = j.1 ∙ ap (λ k. bit j.0 * 2 ^ k) w in
     negation-whole (map value a.nodes.items) (map value ds) j.0 n (length-map a.nodes.items value ∙ w) (length-map ds value ∙ size ∙ w) balance
-    (in-range a.most n _ p.1.below (omega (arith, abs-negated (number value a), within)))
+    (in-range a.most n _ p.1.below (omega (arith, ap unsigned_abs (negative (number value a)), abs-neg (number value a), within)))
     ∙ negative (number value a)
 
 pub neg-within : (z : ℤ) (x : ℤ) (m : ℕ) → z ≡ neg_ℤ x → unsigned_abs x ≤ m → unsigned_abs z ≤ m
 neg-within z x m e h = omega (arith, ap unsigned_abs e, abs-neg x)
-
-parity : (rest : ℕ) (b : Bool) → b ≡ nat_eq (rest % 2) 1 → rest ≡ 2 * (rest / 2) + bit b
-parity rest true e = omega (arith, eqb-true (rest % 2) 1 (sym e))
-parity rest false e = let ne = eqb-false (rest % 2) 1 (sym e) in omega (arith, ne)
 
 -- one more binary digit
 pub binary-next : (value : Node → Bool) (done : List Node) (rest pattern : ℕ) (d : Node)
@@ -121,20 +115,29 @@ constant-value n nodes value most pattern abs small size e plain turned =
     (λ h. e ∙ plain h)
     (λ h. omega (arith, e, turned h, ap (λ m. 2 ^ m) w))
 
-pub constant-wide : (most : ℕ) → most ≤ 2 ^ 80 → width_of most < 84
-constant-wide most h =
-    let p = digits_of most (omega arith) in
-    elim (cases_lt p.0 82) [
-      | inl below ↦ omega (arith, p.1.width)
-      | inr above ↦
-          let far : 2 ^ 82 ≤ 2 ^ p.0 = pow-le-pow_right {n = 2} (omega arith) {i = 82} {j = p.0} above in
-          absurd (omega (arith, far, p.1.needed))
-    ]
+-- a magnitude of 2 ^ 80 at most, and the width of its bits
+pub record IsMagnitude (n : ℤ) (most width : ℕ) : Type 0 where
+  pub abs : unsigned_abs n ≡ most
+  pub small : most ≤ 2 ^ 80
+  pub narrow : width < 128
+  pub below : most < 2 ^ width
 
-pub most-below : (most : ℕ) → most ≤ 2 ^ 80 → most < 2 ^ width_of most
-most-below most h =
+pub magnitude : (n : ℤ) (most width : ℕ) → most ≡ unsigned_abs n → unsigned_abs n ≤ 2 ^ 80 → width ≡ width_of most
+    → IsMagnitude n most width
+magnitude n most width e small w =
     let p = digits_of most (omega arith) in
-    omega (arith, p.1.below, ap (λ m. 2 ^ m) p.1.width, pow-suc 2 p.0)
+    let size : width ≡ suc p.0 = w ∙ p.1.width in
+    record {
+      abs = sym e;
+      small = omega arith;
+      narrow = elim (cases_lt p.0 82) [
+        | inl below ↦ omega arith
+        | inr above ↦
+            let far : 2 ^ 82 ≤ 2 ^ p.0 = pow-le-pow_right {n = 2} (omega arith) {i = 82} {j = p.0} above in
+            absurd (omega (arith, far, p.1.needed))
+      ];
+      below = omega (arith, p.1.below, ap (λ m. 2 ^ m) size, pow-suc 2 p.0);
+    }
 
 -- the pattern of a number in two's complement
 pub record IsPattern (n : ℤ) (most pattern width : ℕ) : Type 0 where
@@ -142,14 +145,14 @@ pub record IsPattern (n : ℤ) (most pattern width : ℕ) : Type 0 where
   pub turned : n <ℤ pos 0 → pattern + most ≡ 2 ^ width
   pub below : pattern < 2 ^ width
 
-pub pattern-then : (n : ℤ) (most pattern width : ℕ) → int_lt n (pos 0) ≡ true → unsigned_abs n ≡ most
-    → most < 2 ^ width → width < 128 → pattern ≡ (1 * 2 ^ width) % 2 ^ 128 - most → IsPattern n most pattern width
-pattern-then (pos m) most pattern width t abs h k e = absurd (omega (arith, ltb-true m 0 t))
-pattern-then (negsuc m) most pattern width t abs h k e =
-    let shift = one_shl width 128 k in
-    record { plain = λ i. absurd (omega (arith, ints, i)); turned = λ i. omega (arith, e, shift, h); below = omega (arith, e, shift, h, abs) }
+pub pattern-then : (n : ℤ) (most pattern width : ℕ) → int_lt n (pos 0) ≡ true → IsMagnitude n most width
+    → pattern ≡ (1 * 2 ^ width) % 2 ^ 128 - most → IsPattern n most pattern width
+pattern-then (pos m) most pattern width t is e = absurd (omega (arith, ltb-true m 0 t))
+pattern-then (negsuc m) most pattern width t is e =
+    let shift = one_shl width 128 is.narrow in
+    record { plain = λ i. absurd (omega (arith, ints, i)); turned = λ i. omega (arith, e, shift, is.below); below = omega (arith, e, shift, is.below, is.abs) }
 
-pub pattern-else : (n : ℤ) (most pattern width : ℕ) → int_lt n (pos 0) ≡ false → most < 2 ^ width → pattern ≡ most
-    → IsPattern n most pattern width
-pattern-else (pos m) most pattern width t h e = record { plain = λ i. e; turned = λ i. absurd (omega (arith, ints, i)); below = omega arith }
-pattern-else (negsuc m) most pattern width t h e = absurd (cc)
+pub pattern-else : (n : ℤ) (most pattern width : ℕ) → int_lt n (pos 0) ≡ false → IsMagnitude n most width
+    → pattern ≡ most → IsPattern n most pattern width
+pattern-else (pos m) most pattern width t is e = record { plain = λ i. e; turned = λ i. absurd (omega (arith, ints, i)); below = omega (arith, is.below) }
+pattern-else (negsuc m) most pattern width t is e = absurd (cc)

@@ -16,7 +16,6 @@ use Rattle.bit_gates.specs.declared.digits.Rule.TheVariants.{Sum, Difference}
 use Rattle.bit_gates.proofs.Wholes.{InRange, sum-whole, difference-whole}
 use Rattle.bit_gates.proofs.Widths.{HasDigits, digits_of, in-range, abs-add, abs-sub, length-resized, nodes-resized, whole-resized}
 use Rattle.std.proofs.Math.Nat.{pow-le-pow_right}
-use Rattle.std.proofs.lemmas.List.Elements.{All-same}
 
 pub abs-joined : (rule : Rule) (x y : ℤ) → unsigned_abs (joined_number rule x y) ≤ unsigned_abs x + unsigned_abs y
 abs-joined Sum x y = abs-add x y
@@ -72,10 +71,7 @@ joined-value rule before net a b ds first second c width is also f small wide e 
     let ys : second ≡ resized_to b.nodes.items (suc n) = g ∙ ap (resized_to b.nodes.items) w in
     let whole_size : length first ≡ suc n = ap length xs ∙ length-resized a.nodes.items (suc n) in
     let on = continues-then before net later f h in
-    let here : IsJoin rule (unsigned (map value (resized_to a.nodes.items (suc n)))) (unsigned (map value (resized_to b.nodes.items (suc n)))) (unsigned (map value ds)) (bit (value c) * 2 ^ suc n) =
-    subst (λ k. IsJoin rule (unsigned (map value (resized_to a.nodes.items (suc n)))) (unsigned (map value (resized_to b.nodes.items (suc n)))) (unsigned (map value ds)) (bit (value c) * 2 ^ k)) whole_size
-    (subst (λ ns. IsJoin rule (unsigned (map value (resized_to a.nodes.items (suc n)))) (unsigned (map value ns)) (unsigned (map value ds)) (bit (value c) * 2 ^ length first)) ys
-    (subst (λ ns. IsJoin rule (unsigned (map value ns)) (unsigned (map value second)) (unsigned (map value ds)) (bit (value c) * 2 ^ length first)) xs (join later h inputs))) in
+    let here = rw (whole_size, xs, ys) at (join later h inputs) in
     joined-number rule value a.nodes.items b.nodes.items ds a.most b.most n (value c)
     (some-digit before a is (omega arith)) (some-digit before b also (omega arith))
     (size ∙ whole_size) p.1.below (is.within later on inputs) (also.within later on inputs) here
@@ -105,7 +101,7 @@ at-width net a wide ns is small h e =
     let far : 2 ^ p.0 ≤ 2 ^ n = pow-le-pow_right {n = 2} (omega arith) {i = p.0} {j = n} (omega (arith, p.1.width)) in
     record {
       size = ap length e ∙ length-resized a.nodes.items wide;
-      all = All-same (IsNode net) ns (resized_to a.nodes.items wide) e (nodes-resized net a.nodes.items wide some is.nodes);
+      all = nodes-resized net a.nodes.items wide ns some is.nodes e;
       means = λ later f inputs.
           let value = node_value later inputs in
           ap (λ ms. whole (map value ms)) (e ∙ ap (resized_to a.nodes.items) w) ∙ whole-resized value a.nodes.items n some (in-range a.most n _ (omega (arith, p.1.below, far)) (is.within later f inputs));
@@ -116,7 +112,3 @@ pub at-width-result : {E V : Type 0} (r : Result V E) (items : V → List Node) 
     → IfOk r (λ v. AtWidth net a wide (items v))
 at-width-result (Ok v) items net a wide is small h e = at-width net a wide (items v) is small h e
 at-width-result (Err x) items net a wide is small h e = tt
-
-pub if-ok : {E V : Type 0} (r : Result V E) {P Q : V → Type 0} → ((v : V) → P v → Q v) → IfOk r P → IfOk r Q
-if-ok (Ok v) f h = f v h
-if-ok (Err x) f h = tt

@@ -5,19 +5,15 @@ use Rattle.std.proofs.Math.IntN.{suc_ℤ-*ℤ, zero-*ℤ, *ℤ_comm, *ℤ-negsuc
 use Rattle.std.proofs.lemmas.Int.{ints, unsigned_abs-mul}
 use Rattle.std.proofs.lemmas.Nat.{mul-le}
 use Rattle.std.proofs.lemmas.List.{length-map, map-append, map_push}
-use Rattle.std.proofs.lemmas.Bool.{eqb-true, eqb-false, ltb-true}
+use Rattle.std.proofs.lemmas.Bool.{ltb-true}
 use Rattle.gate_net.specs.declared.node.Node.{Node}
 use Rattle.bit_gates.specs.Whole.{bit, unsigned, sign, whole, width_of}
 use Rattle.bit_gates.specs.Digits.{IsJoin, resized_to}
 use Rattle.bit_gates.specs.declared.digits.Rule.TheVariants.{Sum}
-use Rattle.bit_gates.proofs.Wholes.{Halves, InRange, halves_of, twice, sum-whole, whole-cons}
+use Rattle.bit_gates.proofs.Wholes.{InRange, range-cases, halves_of, twice, sum-whole, whole-cons}
 use Rattle.bit_gates.proofs.Widths.{HasDigits, digits_of, in-range, length-resized, whole-resized}
-use Rattle.bit_gates.proofs.Sums.{no-whole}
-
--- a number lies in the range of its width
-range-cases : (h u : ℕ) (s : Bool) (z : ℤ) → Halves h u s z → InRange h z
-range-cases h u true z p = record { low = omega (arith, ints); high = omega (arith, ints) }
-range-cases h u false z p = record { low = omega (arith, ints); high = omega (arith, ints) }
+use Rattle.bit_gates.proofs.Sums.{no-whole, parity}
+use Rattle.gate_net.proofs.Growth.{turn}
 
 width-range : (bits : List Bool) (n : ℕ) → length bits ≡ suc n → InRange (2 ^ n) (whole bits)
 width-range bits n size = range-cases (2 ^ n) (unsigned bits) (sign bits) (whole bits) (halves_of bits n size)
@@ -78,12 +74,10 @@ sum-value value xs ys ds first second c width some same wide e f size join =
     wider-sum value xs ys ds c n (omega arith) (omega arith) (size ∙ l) (ap (λ k. unsigned (map value ds) + bit c * 2 ^ k) (sym l) ∙ balance)
 
 pub if-wanted : (w : Bool) (z x y : ℤ) → w ≡ true → z ≡ x +ℤ y → z ≡ x +ℤ (if w then y else pos 0)
-if-wanted true z x y e f = f
-if-wanted false z x y e f = absurd (cc)
+if-wanted w z x y e f = grind (arith, ints)
 
 pub if-unwanted : (w : Bool) (z x y : ℤ) → w ≡ false → z ≡ x → z ≡ x +ℤ (if w then y else pos 0)
-if-unwanted false z x y e f = omega (arith, ints, f)
-if-unwanted true z x y e f = absurd (cc)
+if-unwanted w z x y e f = grind (arith, ints)
 
 -- a multiple by two factors together
 times-add : (m n : ℕ) (a : ℤ) → pos (m + n) *ℤ a ≡ (pos m *ℤ a) +ℤ (pos n *ℤ a)
@@ -95,29 +89,22 @@ times-add (suc m) n a =
     omega (arith, ints, one, two, e)
 
 times-bit : (b : Bool) (a : ℤ) → pos (bit b) *ℤ a ≡ (if b then a else pos 0)
-times-bit true a =
-    let one : pos 1 *ℤ a ≡ (pos 0 *ℤ a) +ℤ a = suc_ℤ-*ℤ (pos 0) a in
-    let z = zero-*ℤ a in
-    omega (arith, ints, one, z)
+times-bit true a = let one : pos 1 *ℤ a ≡ (pos 0 *ℤ a) +ℤ a = suc_ℤ-*ℤ (pos 0) a in omega (arith, ints, one, zero-*ℤ a)
 times-bit false a = zero-*ℤ a
 
-times-split : (rest half : ℕ) (b : Bool) (a : ℤ) → rest ≡ half + half + bit b
+times-split : (rest half : ℕ) (b : Bool) (a : ℤ) → rest ≡ 2 * half + bit b
     → pos rest *ℤ a ≡ ((pos half *ℤ a) +ℤ (pos half *ℤ a)) +ℤ (if b then a else pos 0)
 times-split rest half b a e =
-    ap (λ n. pos n *ℤ a) e ∙ times-add (half + half) (bit b) a
+    ap (λ n. pos n *ℤ a) (e ∙ omega arith) ∙ times-add (half + half) (bit b) a
     ∙ ap (λ z. z +ℤ (pos (bit b) *ℤ a)) (times-add half half a)
     ∙ ap (λ z. ((pos half *ℤ a) +ℤ (pos half *ℤ a)) +ℤ z) (times-bit b a)
-
-halving : (rest : ℕ) (b : Bool) → b ≡ nat_eq (rest % 2) 1 → rest ≡ (rest / 2) + (rest / 2) + bit b
-halving rest true e = omega (arith, eqb-true (rest % 2) 1 (sym e))
-halving rest false e = let ne = eqb-false (rest % 2) 1 (sym e) in omega (arith, ne)
 
 -- what is still to be added, without the lowest digit of its sum with the next part
 parts-next : (rest : ℕ) (b d : Bool) (a higher sum next : ℤ) → b ≡ nat_eq (rest % 2) 1
     → sum ≡ higher +ℤ (if b then a else pos 0) → sum ≡ pos (bit d) +ℤ (next +ℤ next)
     → higher +ℤ (pos rest *ℤ a) ≡ pos (bit d) +ℤ ((next +ℤ (pos (rest / 2) *ℤ a)) +ℤ (next +ℤ (pos (rest / 2) *ℤ a)))
 parts-next rest b d a higher sum next e f g =
-    let t = times-split rest (rest / 2) b a (halving rest b e) in
+    let t = times-split rest (rest / 2) b a (parity rest b e) in
     omega (arith, ints, f, g, t)
 
 -- the number of lower digits, and of what is above them
@@ -221,17 +208,9 @@ pub times-below : (k a : ℤ) (m : ℕ) (z x : ℤ) → int_lt k (pos 0) ≡ tru
 times-below (pos n) a m z x t e f g = absurd (omega (arith, ltb-true n 0 t))
 times-below (negsuc n) a m z x t e f g = g ∙ ap neg_ℤ (f ∙ ap (λ i. pos i *ℤ a) e) ∙ times-negative n a
 
-pub times-from : (k a : ℤ) (m : ℕ) (z : ℤ) → int_lt k (pos 0) ≡ false → m ≡ unsigned_abs k → z ≡ pos m *ℤ a → z ≡ k *ℤ a
-times-from (pos n) a m z t e f = f ∙ ap (λ i. pos i *ℤ a) e
-times-from (negsuc n) a m z t e f = absurd (cc)
-
 -- the nodes of 32 turns at most
 pub turns : (w i : ℕ) → i < 32 → 5 * w * i + 5 * w ≤ 160 * w
-turns w i h =
-    let e : 5 * w * i + 5 * w ≡ 5 * w * (i + 1) = grind arith in
-    let f : 5 * w * (i + 1) ≤ 5 * w * 32 = mul-le (5 * w) (i + 1) (5 * w) 32 (omega arith) (omega arith) in
-    let g : 5 * w * 32 ≡ 160 * w = omega arith in
-    omega arith
+turns w i h = omega (arith, turn (5 * w) i 32 h)
 
 -- nothing is left of the factor after as many turns as it has digits
 pub last-rest : (rest i : ℕ) → rest < 2 ^ (32 - i) → 32 ≤ i → rest < 1

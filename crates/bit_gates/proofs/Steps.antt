@@ -11,38 +11,13 @@ use Rattle.bit_gates.proofs.Wholes.{unsigned-push}
 use Rattle.bit_gates.specs.declared.digits.Rule.{Rule}
 use Rattle.bit_gates.specs.declared.digits.Rule.TheVariants.{Sum, Difference}
 
-sum-digit : (x y c : Bool) → bit (differ (differ x y) c) + 2 * bit (if differ x y then c else x) ≡ bit x + bit y + bit c
-sum-digit true true true = refl
-sum-digit true true false = refl
-sum-digit true false true = refl
-sum-digit true false false = refl
-sum-digit false true true = refl
-sum-digit false true false = refl
-sum-digit false false true = refl
-sum-digit false false false = refl
-
-difference-digit : (x y c : Bool)
-    → bit (differ (differ x y) c) + bit y + bit c ≡ bit x + 2 * bit (if differ x y then y else c)
-difference-digit true true true = refl
-difference-digit true true false = refl
-difference-digit true false true = refl
-difference-digit true false false = refl
-difference-digit false true true = refl
-difference-digit false true false = refl
-difference-digit false false true = refl
-difference-digit false false false = refl
-
 pub sum-step : (rule : Rule) (x y c t d r : Bool) → rule ≡ Sum → t ≡ differ x y → d ≡ differ t c
     → r ≡ (if t then c else x) → IsStep rule x y c d r
-sum-step rule x y c t d r is e f g = subst (λ k. IsStep k x y c d r) (sym is) (rw (g, f, e) (sum-digit x y c))
+sum-step rule x y c t d r is e f g = grind arith
 
 pub difference-step : (rule : Rule) (x y c t d r : Bool) → rule ≡ Difference → t ≡ differ x y → d ≡ differ t c
     → r ≡ (if t then y else c) → IsStep rule x y c d r
-difference-step rule x y c t d r is e f g = subst (λ k. IsStep k x y c d r) (sym is) (rw (g, f, e) (difference-digit x y c))
-
-pub join-none : (rule : Rule) (c : Bool) → c ≡ false → IsJoin rule 0 0 0 (bit c * 2 ^ 0)
-join-none Sum c e = rw e refl
-join-none Difference c e = rw e refl
+difference-step rule x y c t d r is e f g = grind arith
 
 join-more : (rule : Rule) (u v s p : ℕ) (x y c d r : Bool) → IsJoin rule u v s (bit c * p) → IsStep rule x y c d r
     → IsJoin rule (u + bit x * p) (v + bit y * p) (s + bit d * p) (bit r * (p + p))
@@ -79,27 +54,16 @@ join-next rule value xs ys done i e c d r h k size j step =
 
 pub unsigned-lt : (bits : List Bool) → unsigned bits < 2 ^ length bits
 unsigned-lt [] = omega arith
-unsigned-lt (true ∷ bits) = omega (arith, unsigned-lt bits, pow-suc 2 (length bits))
-unsigned-lt (false ∷ bits) = omega (arith, unsigned-lt bits, pow-suc 2 (length bits))
+unsigned-lt (b ∷ bits) = grind (arith, unsigned-lt bits, pow-suc 2 (length bits))
 
 pub front-lt : (value : Node → Bool) (xs : List Node) (i : ℕ) → i ≤ length xs → unsigned (map value (take i xs)) < 2 ^ i
 front-lt value xs i h =
     let size : length (map value (take i xs)) ≡ i = length-map (take i xs) value ∙ length-take-le i xs h in
     omega (arith, unsigned-lt (map value (take i xs)), ap (λ n. 2 ^ n) size)
 
-differ-anyway : (x y : Bool) (u v p : ℕ) → u < p → v < p → u ≢ v → u + bit x * p ≢ v + bit y * p
-differ-anyway true true u v p h k ne = λ e. ne (omega arith)
-differ-anyway true false u v p h k ne = λ e. ne (omega arith)
-differ-anyway false true u v p h k ne = λ e. ne (omega arith)
-differ-anyway false false u v p h k ne = λ e. ne (omega arith)
-
 differ-cases : (d x y : Bool) (u v p : ℕ) → u < p → v < p → Differs d u v
     → Differs (d || differ x y) (u + bit x * p) (v + bit y * p)
-differ-cases true x y u v p h k j = let ne : u ≢ v = j.apart refl in record { same = λ e. absurd (cc); apart = λ e. differ-anyway x y u v p h k ne }
-differ-cases false true true u v p h k j = record { same = λ e. omega (arith, j.same refl); apart = λ e. absurd (cc) }
-differ-cases false false false u v p h k j = record { same = λ e. omega (arith, j.same refl); apart = λ e. absurd (cc) }
-differ-cases false true false u v p h k j = record { same = λ e. absurd (cc); apart = λ e f. absurd (omega (arith, f)) }
-differ-cases false false true u v p h k j = record { same = λ e. absurd (cc); apart = λ e f. absurd (omega (arith, f)) }
+differ-cases d x y u v p h k j = record { same = grind arith; apart = grind arith }
 
 pub differ-next : (value : Node → Bool) (xs ys : List Node) (i : ℕ) (e : Node) (d t r : Bool) → i < length xs
     → i < length ys → Differs d (unsigned (map value (take i xs))) (unsigned (map value (take i ys)))

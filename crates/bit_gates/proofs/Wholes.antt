@@ -3,9 +3,9 @@ use Rattle.std.proofs.Common.{◌≡◌, ◌≢◌, not, ◌<◌, ◌≤◌, ◌
 use Rattle.std.specs.Prelude.{int_lt, if◌then◌else◌, pos, negsuc, neg_ℤ, ◌+ℤ◌, ◌-ℤ◌, ◌*ℤ◌, ◌≤ℤ◌, ◌<ℤ◌, unsigned_abs}
 use Rattle.std.proofs.Math.Nat.{pow-suc}
 use Rattle.std.proofs.lemmas.List.{length_push, append-nil, length-take-le}
-use Rattle.std.proofs.lemmas.Nat.{pow_pos}
+use Rattle.std.proofs.lemmas.Nat.{pow_pos, mul-le}
 use Rattle.std.proofs.lemmas.Int.{ints}
-use Rattle.std.proofs.lemmas.Bool.{false_from_ne_true}
+use Rattle.std.proofs.lemmas.Bool.{false_from_ne_true, cases_lt}
 use Rattle.std.proofs.lemmas.Bool.Decides.{Decides-int_eq}
 use Rattle.std.specs.Ordering.{int_eq}
 use Rattle.gate_net.specs.Net.{differ}
@@ -32,16 +32,12 @@ pub record Halves (h u : ℕ) (s : Bool) (z : ℤ) : Type 0 where
 
 halves_next : (b s : Bool) (h k u : ℕ) → k ≡ h + h → (bit s * h ≤ u) × (u < h + bit s * h)
     → (bit s * k ≤ bit b + 2 * u) × (bit b + 2 * u < k + bit s * k)
-halves_next true true h k u e p = (omega (arith, p.0), omega (arith, p.1))
-halves_next true false h k u e p = (omega (arith, p.0), omega (arith, p.1))
-halves_next false true h k u e p = (omega (arith, p.0), omega (arith, p.1))
-halves_next false false h k u e p = (omega (arith, p.0), omega (arith, p.1))
+halves_next b s h k u e p = (grind arith, grind arith)
 
 unsigned-halves : (b : Bool) (bits : List Bool)
     → (bit (sign_after b bits) * 2 ^ length bits ≤ unsigned (b ∷ bits))
     × (unsigned (b ∷ bits) < 2 ^ length bits + bit (sign_after b bits) * 2 ^ length bits)
-unsigned-halves true [] = (omega arith, omega arith)
-unsigned-halves false [] = (omega arith, omega arith)
+unsigned-halves b [] = (grind arith, grind arith)
 unsigned-halves b (c ∷ bits) = halves_next b (sign_after c bits) (2 ^ length bits) (2 ^ suc (length bits)) (unsigned (c ∷ bits)) (omega (arith, pow-suc 2 (length bits))) (unsigned-halves c bits)
 
 pub halves : (b : Bool) (bits : List Bool)
@@ -56,44 +52,41 @@ pub record InRange (h : ℕ) (z : ℤ) : Type 0 where
   pub low : neg_ℤ (pos h) ≤ℤ z
   pub high : z <ℤ pos h
 
+-- what digits are worth lies in the range of their width
+pub range-cases : (h u : ℕ) (s : Bool) (z : ℤ) → Halves h u s z → InRange h z
+range-cases h u s z p = record { low = grind (arith, ints); high = grind (arith, ints) }
+
+-- a number of the range with more of its width is no other number of the range with less
+more-width : (h m n : ℕ) (r t : ℤ) → InRange h r → InRange h t
+    → r +ℤ pos (m * (h + h)) ≡ t +ℤ pos (n * (h + h)) → n ≤ m
+more-width h m n r t f g e = elim (cases_lt m n) [
+  | inl below ↦
+      let far : (m + 1) * (h + h) ≤ n * (h + h) = mul-le (m + 1) (h + h) n (h + h) (omega arith) (omega arith) in
+      let next : (m + 1) * (h + h) ≡ m * (h + h) + (h + h) = grind arith in
+      absurd (omega (arith, ints, f.low, f.high, g.low, g.high, e, far, next))
+  | inr least ↦ least
+]
+
+one-residue : (h m n : ℕ) (r t : ℤ) → InRange h r → InRange h t
+    → r +ℤ pos (m * (h + h)) ≡ t +ℤ pos (n * (h + h)) → r ≡ t
+one-residue h m n r t f g e =
+    let same : m ≡ n = omega (arith, more-width h m n r t f g e, more-width h n m t r g f (sym e)) in
+    omega (arith, ints, e, ap (λ k. k * (h + h)) same)
+
 -- a sum of digits that are as wide as the result
 sum_cases : (h u v s : ℕ) (x y z c : Bool) (a b r : ℤ) → Halves h u x a → Halves h v y b → Halves h s z r
     → s + bit c * (h + h) ≡ u + v → InRange h (a +ℤ b) → r ≡ a +ℤ b
-sum_cases h u v s true true true true a b r p q t e f = omega (arith, ints)
-sum_cases h u v s true true true false a b r p q t e f = omega (arith, ints)
-sum_cases h u v s true true false true a b r p q t e f = omega (arith, ints)
-sum_cases h u v s true true false false a b r p q t e f = omega (arith, ints)
-sum_cases h u v s true false true true a b r p q t e f = omega (arith, ints)
-sum_cases h u v s true false true false a b r p q t e f = omega (arith, ints)
-sum_cases h u v s true false false true a b r p q t e f = omega (arith, ints)
-sum_cases h u v s true false false false a b r p q t e f = omega (arith, ints)
-sum_cases h u v s false true true true a b r p q t e f = omega (arith, ints)
-sum_cases h u v s false true true false a b r p q t e f = omega (arith, ints)
-sum_cases h u v s false true false true a b r p q t e f = omega (arith, ints)
-sum_cases h u v s false true false false a b r p q t e f = omega (arith, ints)
-sum_cases h u v s false false true true a b r p q t e f = omega (arith, ints)
-sum_cases h u v s false false true false a b r p q t e f = omega (arith, ints)
-sum_cases h u v s false false false true a b r p q t e f = omega (arith, ints)
-sum_cases h u v s false false false false a b r p q t e f = omega (arith, ints)
+sum_cases h u v s x y z c a b r p q t e f =
+    let left : (bit z + bit c) * (h + h) ≡ bit z * (h + h) + bit c * (h + h) = grind arith in
+    let right : (bit x + bit y) * (h + h) ≡ bit x * (h + h) + bit y * (h + h) = grind arith in
+    one-residue h (bit z + bit c) (bit x + bit y) r (a +ℤ b) (range-cases h s z r t) f (omega (arith, ints, p.is, q.is, t.is, e, left, right))
 
 difference_cases : (h u v s : ℕ) (x y z c : Bool) (a b r : ℤ) → Halves h u x a → Halves h v y b → Halves h s z r
     → s + v ≡ u + bit c * (h + h) → InRange h (a -ℤ b) → r ≡ a -ℤ b
-difference_cases h u v s true true true true a b r p q t e f = omega (arith, ints)
-difference_cases h u v s true true true false a b r p q t e f = omega (arith, ints)
-difference_cases h u v s true true false true a b r p q t e f = omega (arith, ints)
-difference_cases h u v s true true false false a b r p q t e f = omega (arith, ints)
-difference_cases h u v s true false true true a b r p q t e f = omega (arith, ints)
-difference_cases h u v s true false true false a b r p q t e f = omega (arith, ints)
-difference_cases h u v s true false false true a b r p q t e f = omega (arith, ints)
-difference_cases h u v s true false false false a b r p q t e f = omega (arith, ints)
-difference_cases h u v s false true true true a b r p q t e f = omega (arith, ints)
-difference_cases h u v s false true true false a b r p q t e f = omega (arith, ints)
-difference_cases h u v s false true false true a b r p q t e f = omega (arith, ints)
-difference_cases h u v s false true false false a b r p q t e f = omega (arith, ints)
-difference_cases h u v s false false true true a b r p q t e f = omega (arith, ints)
-difference_cases h u v s false false true false a b r p q t e f = omega (arith, ints)
-difference_cases h u v s false false false true a b r p q t e f = omega (arith, ints)
-difference_cases h u v s false false false false a b r p q t e f = omega (arith, ints)
+difference_cases h u v s x y z c a b r p q t e f =
+    let left : (bit z + bit y) * (h + h) ≡ bit z * (h + h) + bit y * (h + h) = grind arith in
+    let right : (bit c + bit x) * (h + h) ≡ bit c * (h + h) + bit x * (h + h) = grind arith in
+    one-residue h (bit z + bit y) (bit c + bit x) r (a -ℤ b) (range-cases h s z r t) f (omega (arith, ints, p.is, q.is, t.is, e, left, right))
 
 pub halves_of : (bits : List Bool) (n : ℕ) → length bits ≡ suc n
     → Halves (2 ^ n) (unsigned bits) (sign bits) (whole bits)
@@ -142,8 +135,7 @@ whole-widened bits s (suc k) e =
 double_next : (b s : Bool) (u p : ℕ)
     → pos (bit b + 2 * u) -ℤ pos (bit s * (p + p))
     ≡ pos (bit b) +ℤ ((pos u -ℤ pos (bit s * p)) +ℤ (pos u -ℤ pos (bit s * p)))
-double_next b true u p = omega (arith, ints)
-double_next b false u p = omega (arith, ints)
+double_next b s u p = grind (arith, ints)
 
 pub whole-cons : (b c : Bool) (bits : List Bool)
     → whole (b ∷ c ∷ bits) ≡ pos (bit b) +ℤ (whole (c ∷ bits) +ℤ whole (c ∷ bits))
@@ -151,12 +143,10 @@ whole-cons b c bits =
     ap (λ p. pos (unsigned (b ∷ c ∷ bits)) -ℤ pos (bit (sign_after c bits) * p)) (twice (suc (length bits))) ∙ double_next b (sign_after c bits) (unsigned (c ∷ bits)) (2 ^ suc (length bits))
 
 one-digit : (b : Bool) (z : ℤ) → InRange 1 (pos (bit b) +ℤ (z +ℤ z)) → whole (b ∷ []) ≡ pos (bit b) +ℤ (z +ℤ z)
-one-digit true z f = omega (arith, ints)
-one-digit false z f = omega (arith, ints)
+one-digit b z f = grind (arith, ints)
 
 half-range : (b : Bool) (h k : ℕ) (z : ℤ) → k ≡ h + h → InRange k (pos (bit b) +ℤ (z +ℤ z)) → InRange h z
-half-range true h k z e f = record { low = omega (arith, ints, f.low, f.high); high = omega (arith, ints, f.low, f.high) }
-half-range false h k z e f = record { low = omega (arith, ints, f.low, f.high); high = omega (arith, ints, f.low, f.high) }
+half-range b h k z e f = record { low = grind (arith, ints); high = grind (arith, ints) }
 
 -- digits that the number doesn't need can be cut off
 pub whole-cut : (n : ℕ) (bits : List Bool) → n < length bits → InRange (2 ^ n) (whole bits)
@@ -178,8 +168,7 @@ front-and-sign (b ∷ c ∷ bits) zero size = absurd (omega arith)
 front-and-sign (b ∷ c ∷ bits) (suc n) size = ap (λ xs. b ∷ xs) (front-and-sign (c ∷ bits) n (omega arith))
 
 narrower : (u p : ℕ) (s : Bool) → pos (u + bit s * p) -ℤ pos (bit s * (p + p)) ≡ pos u -ℤ pos (bit s * p)
-narrower u p true = omega (arith, ints)
-narrower u p false = omega (arith, ints)
+narrower u p s = grind (arith, ints)
 
 -- a number by its lower digits and its sign
 pub whole-split : (bits : List Bool) (n : ℕ) → length bits ≡ suc n
@@ -194,37 +183,20 @@ whole-split bits n size =
     ∙ ap (λ p. pos (unsigned (take n bits) + bit (sign bits) * 2 ^ n) -ℤ pos (bit (sign bits) * p)) wide
     ∙ narrower (unsigned (take n bits)) (2 ^ n) (sign bits)
 
-lt-true : (a b : ℤ) → a <ℤ b → int_lt a b ≡ true
-lt-true a b h = grind (arith, ints)
-
-lt-false : (a b : ℤ) → b ≤ℤ a → int_lt a b ≡ false
-lt-false a b h = grind (arith, ints)
-
 eq-false : (a b : ℤ) → a ≢ b → int_eq a b ≡ false
 eq-false a b h = false_from_ne_true (int_eq a b) (λ t. h ((Decides-int_eq a b).0 t))
 
 -- the order of two numbers, by their signs and a borrow of the lower digits
 pub order-cases : (h u v s : ℕ) (x y c : Bool) → u < h → v < h → s < h → s + v ≡ u + bit c * h
     → (if differ x y then x else c) ≡ int_lt (pos u -ℤ pos (bit x * h)) (pos v -ℤ pos (bit y * h))
-order-cases h u v s true true true i j k e = sym (lt-true (pos u -ℤ pos (bit true * h)) (pos v -ℤ pos (bit true * h)) (omega (arith, ints)))
-order-cases h u v s true true false i j k e = sym (lt-false (pos u -ℤ pos (bit true * h)) (pos v -ℤ pos (bit true * h)) (omega (arith, ints)))
-order-cases h u v s false false true i j k e = sym (lt-true (pos u -ℤ pos (bit false * h)) (pos v -ℤ pos (bit false * h)) (omega (arith, ints)))
-order-cases h u v s false false false i j k e = sym (lt-false (pos u -ℤ pos (bit false * h)) (pos v -ℤ pos (bit false * h)) (omega (arith, ints)))
-order-cases h u v s true false c i j k e = sym (lt-true (pos u -ℤ pos (bit true * h)) (pos v -ℤ pos (bit false * h)) (omega (arith, ints)))
-order-cases h u v s false true c i j k e = sym (lt-false (pos u -ℤ pos (bit false * h)) (pos v -ℤ pos (bit true * h)) (omega (arith, ints)))
+order-cases h u v s x y c i j k e = grind (arith, ints)
 
 -- numbers of one width are equal where they are without a sign
 equal-cases : (h u v : ℕ) (x y : Bool) (a b : ℤ) → Halves h u x a → Halves h v y b → u ≡ v → a ≡ b
-equal-cases h u v true true a b p q e = omega (arith, ints)
-equal-cases h u v false false a b p q e = omega (arith, ints)
-equal-cases h u v true false a b p q e = omega (arith, ints)
-equal-cases h u v false true a b p q e = omega (arith, ints)
+equal-cases h u v x y a b p q e = grind (arith, ints)
 
 equal-back : (h u v : ℕ) (x y : Bool) (a b : ℤ) → Halves h u x a → Halves h v y b → a ≡ b → u ≡ v
-equal-back h u v true true a b p q e = omega (arith, ints)
-equal-back h u v false false a b p q e = omega (arith, ints)
-equal-back h u v true false a b p q e = omega (arith, ints)
-equal-back h u v false true a b p q e = omega (arith, ints)
+equal-back h u v x y a b p q e = grind (arith, ints)
 
 pub equality : (xs ys : List Bool) (n : ℕ) (d r : Bool) → length xs ≡ suc n → length ys ≡ suc n
     → Differs d (unsigned xs) (unsigned ys) → r ≡ not d → r ≡ int_eq (whole xs) (whole ys)
@@ -242,12 +214,10 @@ negation-whole ys ds c n k l e f =
     difference_cases (2 ^ n) 0 _ _ false (sign ys) (sign ds) c (pos 0) _ _ none (halves_of ys n k) (halves_of ds n l) balance f
 
 positive-cases : (h m u : ℕ) (s : Bool) (z : ℤ) → Halves h u s z → m < h → u ≡ m → z ≡ pos m
-positive-cases h m u true z p b e = omega (arith, ints)
-positive-cases h m u false z p b e = omega (arith, ints)
+positive-cases h m u s z p b e = grind (arith, ints)
 
 negative-cases : (h m u : ℕ) (s : Bool) (z : ℤ) → Halves h u s z → suc m < h → u + suc m ≡ h + h → z ≡ negsuc m
-negative-cases h m u true z p b e = omega (arith, ints)
-negative-cases h m u false z p b e = omega (arith, ints)
+negative-cases h m u s z p b e = grind (arith, ints)
 
 -- the number whose digits are those of n, or of n and a power of two that is above the width
 pub constant-whole : (n : ℤ) (bits : List Bool) (k most : ℕ) → length bits ≡ suc k → unsigned_abs n ≡ most

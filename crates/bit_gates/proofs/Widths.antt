@@ -3,7 +3,7 @@ use Rattle.std.proofs.Common.{◌≡◌, ◌<◌, ◌≤◌, ◌+◌, ◌-◌, �
 use Rattle.std.specs.Prelude.{pos, negsuc, ◌+ℤ◌, ◌-ℤ◌, unsigned_abs}
 use Rattle.std.specs.List.{All}
 use Rattle.std.proofs.lemmas.List.{append-nil, length-map, length-replicate, map-append, take-map, take_all}
-use Rattle.std.proofs.lemmas.List.Elements.{All-append, All-take, All-replicate}
+use Rattle.std.proofs.lemmas.List.Elements.{All-append, All-take, All-replicate, All-same}
 use Rattle.std.proofs.lemmas.Int.{ints}
 use Rattle.gate_net.specs.Net.{IsNode}
 use Rattle.gate_net.specs.declared.gate.Gate.{Gate}
@@ -62,10 +62,6 @@ abs-add x y = grind arith
 pub abs-sub : (x y : ℤ) → unsigned_abs (x -ℤ y) ≤ unsigned_abs x + unsigned_abs y
 abs-sub x y = grind arith
 
--- the last node, and nodes at another width
-last-within : (nodes : List Node) → 0 < length nodes → length nodes - 1 < length nodes
-last-within nodes h = omega arith
-
 sign_last : (value : Node → Bool) (n : Node) (nodes : List Node) (d : Node)
     → sign_after (value n) (map value nodes) ≡ value (get_or (n ∷ nodes) (length nodes) d)
 sign_last value n [] d = refl
@@ -82,11 +78,11 @@ pub length-resized : (nodes : List Node) (width : ℕ) → length (resized_to no
 length-resized nodes width =
     omega (arith, length-append (take width nodes) (replicate (width - length nodes) (last_of nodes)), length-take width nodes, length-replicate (width - length nodes) (last_of nodes))
 
-pub nodes-resized : (net : List Gate) (nodes : List Node) (width : ℕ) → 0 < length nodes → All (IsNode net) nodes
-    → All (IsNode net) (resized_to nodes width)
-nodes-resized net nodes width h all =
-    All-append (IsNode net) (take width nodes) (replicate (width - length nodes) (last_of nodes)) (All-take (IsNode net) width nodes all)
-    (All-replicate (IsNode net) (width - length nodes) (last_of nodes) (all (length nodes - 1) (record { place = 0 }) (last-within nodes h)))
+pub nodes-resized : (net : List Gate) (nodes : List Node) (width : ℕ) (resized : List Node) → 0 < length nodes
+    → All (IsNode net) nodes → resized ≡ resized_to nodes width → All (IsNode net) resized
+nodes-resized net nodes width resized h all e =
+    All-same (IsNode net) resized (resized_to nodes width) e (All-append (IsNode net) (take width nodes) (replicate (width - length nodes) (last_of nodes)) (All-take (IsNode net) width nodes all)
+    (All-replicate (IsNode net) (width - length nodes) (last_of nodes) (all (length nodes - 1) (record { place = 0 }) (omega arith))))
 
 map-replicate : (value : Node → Bool) (k : ℕ) (n : Node) → map value (replicate k n) ≡ replicate k (value n)
 map-replicate value zero n = refl

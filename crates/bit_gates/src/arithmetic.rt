@@ -60,10 +60,8 @@ pub fn neg(net: &mut Net, a: &Bits) -> Result<Bits, AllocError>
         number value negation ≡ neg_ℤ (number value a.now))) }
 {
     let nodes = negated(net, a.nodes.as_slice())?;
-    Ok(Bits {
-        nodes,
-        most: a.most,
-    })
+    let most = a.most;
+    Ok(Bits { nodes, most })
 }
 
 // The sum or the difference of two numbers, at the width at which both fit.

@@ -41,8 +41,8 @@ fn digit(net: &Net, node: Node) -> Result<Bits, AllocError>
     Ok(Bits { nodes, most: 1 })
 }
 
-/// The sum of the numbers whose node is true, with the sum of all bounds. For each part it adds at most as many nodes as
-/// the part has digits, and five for each digit of the result.
+/// The sum of the numbers whose node is true, with the sum of all bounds. For each part it adds at most as many nodes
+/// as the part has digits, and five for each digit of the result.
 ///
 /// Answers `AllocError` where memory is refused. Earlier nodes keep their values, also then.
 pub fn sum(net: &mut Net, of: &[(Node, Bits)]) -> Result<Bits, AllocError>
@@ -77,8 +77,6 @@ fn masked(net: &mut Net, node: Node, bits: &Bits) -> Result<Bits, AllocError>
     for digit in &bits.nodes {
         nodes.push(net.and(node, *digit)?)?;
     }
-    Ok(Bits {
-        nodes,
-        most: bits.most,
-    })
+    let most = bits.most;
+    Ok(Bits { nodes, most })
 }

@@ -1,8 +1,8 @@
 //! Checks the sources of a file, and prints of each whether it is accepted or which rule it breaks and where. Its
-//! stored run is the table of the rules on classes, names, types and thrown exceptions; `tools/ask_java check` compares it
-//! with `javac`.
+//! stored run is the table of the rules on classes, names, types and thrown exceptions; `tools/ask_java check` compares
+//! it with `javac`.
 //!
-//! Each source begins behind a line `== NAME` and ends before the next one.
+//! Each source begins after a line `== NAME` and ends before the next one.
 #![tactic(auto)]
 
 use java_source::{SourceError, SourceRefusal, program_of};

@@ -38,7 +38,7 @@ up_more ps n c =
     λ o. elim o as (λ v. option_and_then (up ps 1) v ≡ option_and_then (parent_in ps) v) [ None ↦ refl | Some d ↦ up_one ps d ] in
     up_add ps n 1 c ∙ step (up ps n c)
 
--- behind the top there is nothing
+-- after the top there is nothing
 pub up_past : (ps : List (Option ℕ)) (m n c : ℕ) → m ≤ n → up ps m c ≡ None → up ps n c ≡ None
 up_past ps m n c le top =
     let e : n ≡ m + (n - m) = omega arith in

@@ -2,9 +2,9 @@
 use Rattle.std.proofs.Common.{◌≡◌, ◌+◌, ◌<◌, ◌≤◌, ◌++◌, ℕ, List, length, ◌^◌, arith, ◌∙◌, refl, ap, subst, inl, inr}
 use Rattle.java_syntax.specs.declared.class.ClassTree.{ClassTree}
 use Rattle.java_syntax.specs.declared.class.FileTree.{FileTree}
-use Rattle.java_syntax.specs.declared.fault.Fault.{Fault}
-use Rattle.java_syntax.specs.declared.fault.CheckError.{CheckError}
-use Rattle.java_syntax.specs.declared.fault.CheckError.TheVariants as error
+use Rattle.token_reading.specs.declared.fault.Fault.{Fault}
+use Rattle.token_reading.specs.declared.fault.CheckError.{CheckError}
+use Rattle.token_reading.specs.declared.fault.CheckError.TheVariants as error
 use Rattle.class_table.proofs.KnownLemmas.{names_length, declared_length, known_of}
 use Rattle.class_table.specs.declared.row.ClassRow.{ClassRow}
 use Rattle.class_table.specs.Table.{rows_from, table_of}

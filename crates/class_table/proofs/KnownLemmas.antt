@@ -4,7 +4,7 @@ use Rattle.std.specs.List.{position_or_len}
 use Rattle.std.proofs.lemmas.List.{length-map}
 use Rattle.std.proofs.lemmas.Bool.Decides.{nat_tests}
 use Rattle.java_syntax.specs.declared.class.ClassTree.{ClassTree}
-use Rattle.java_syntax.specs.declared.name.Ident.{Ident}
+use Rattle.token_reading.specs.declared.name.Ident.{Ident}
 use Rattle.class_table.specs.Names.{Name, built_in_names, class_names, number_of, same_name}
 use Rattle.class_table.specs.BuiltIn.{built_in}
 use Rattle.class_table.specs.Ancestors.{IsKnown, parent_in, parents_of}

@@ -9,11 +9,11 @@ use Rattle.std.proofs.lemmas.List.{length-map}
 use Rattle.std.proofs.lemmas.List.Folds.{find_at}
 use Rattle.std.proofs.lemmas.Option.{slice_get_within}
 use Rattle.std.proofs.lemmas.Slice.Eq.{bytes_eq-Decides}
-use Rattle.java_syntax.specs.declared.fault.Fault.{Fault}
-use Rattle.java_syntax.specs.declared.fault.CheckError.{CheckError}
-use Rattle.java_syntax.specs.declared.name.TypeTree.{TypeTree}
-use Rattle.java_syntax.specs.declared.name.BaseType.{BaseType}
-use Rattle.java_syntax.specs.declared.name.BaseType.TheVariants.{Int, Boolean, Class}
+use Rattle.token_reading.specs.declared.fault.Fault.{Fault}
+use Rattle.token_reading.specs.declared.fault.CheckError.{CheckError}
+use Rattle.token_reading.specs.declared.name.TypeTree.{TypeTree}
+use Rattle.token_reading.specs.declared.name.BaseType.{BaseType}
+use Rattle.token_reading.specs.declared.name.BaseType.TheVariants.{Int, Boolean, Class}
 use Rattle.class_table.specs.declared.declaration.Declaration.{Declaration}
 use Rattle.class_table.specs.declared.row.MethodRow.{MethodRow}
 use Rattle.class_table.specs.declared.row.Signature.{Signature}

@@ -1,10 +1,11 @@
 -- What each class of a program declares by itself.
 use Rattle.std.specs.Prelude.{ℕ, ◌+◌, List, [], ◌∷◌, ◌++◌, Option, Some, None}
 use Rattle.java_syntax.specs.declared.class.ClassTree.{ClassTree}
-use Rattle.java_syntax.specs.declared.name.Ident.{Ident}
+use Rattle.token_reading.specs.declared.name.Ident.{Ident}
 use Rattle.class_table.specs.declared.declaration.Declaration.{Declaration}
 use Rattle.class_table.specs.Names.{Name, class_names, number_of}
 use Rattle.class_table.specs.Members.{fields_in, methods_in, makers_in}
+use Rattle.core_tree.specs.BuiltIn.{first_class}
 use Rattle.class_table.specs.BuiltIn.{built_in}
 
 -- the superclass is Object where none is written
@@ -23,4 +24,4 @@ declarations names number (c ∷ more) = declaration names number c ∷ declarat
 
 -- the classes of the program by their numbers: the built-in ones, then those of the file
 unfoldable pub declared_of : List ClassTree → List Declaration
-declared_of classes = built_in ++ declarations (class_names classes) 18 classes
+declared_of classes = built_in ++ declarations (class_names classes) first_class classes

@@ -1,11 +1,12 @@
 -- What a check answers.
 use Rattle.std.specs.Prelude.{ℕ, ◌≡◌, List, Some}
 use Rattle.std.specs.List.{slice_get}
-use Rattle.java_syntax.specs.declared.fault.Fault.{Fault}
-use Rattle.java_syntax.specs.declared.fault.CheckError.{CheckError}
-use Rattle.java_syntax.specs.declared.fault.CheckError.TheVariants as error
+use Rattle.token_reading.specs.declared.fault.Fault.{Fault}
+use Rattle.token_reading.specs.declared.fault.CheckError.{CheckError}
+use Rattle.token_reading.specs.declared.fault.CheckError.TheVariants as error
 
--- P holds of an element of a list: of its number, counted from 0, the element, and what is said of it, a token or a fault
+-- P holds of an element of a list: of its number, counted from 0, the element, and what is said of it, a token or a
+-- fault
 pub record InSome {A B : Type 0} (xs : List A) (P : ℕ → A → B → Type 0) (what : B) : Type 0 where
   pub number : ℕ
   pub element : A

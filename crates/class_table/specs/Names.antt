@@ -1,5 +1,6 @@
 -- Names of classes and their numbers.
 use Rattle.std.specs.Prelude.{ℕ, Bool, nat_eq, List, [], ◌∷◌, ◌++◌, map, codes, Option, position}
+use Rattle.core_tree.specs.BuiltIn.{all_built_in, name_of}
 use Rattle.java_syntax.specs.declared.class.ClassTree.{ClassTree}
 use Rattle.std.specs.Cmp.Lexicographic.{pointwise}
 
@@ -12,13 +13,7 @@ same_name = pointwise nat_eq
 
 -- the classes that every program has, by their numbers
 unfoldable pub built_in_names : List Name
-built_in_names =
-    codes "Object" ∷ codes "Throwable" ∷ codes "Exception" ∷ codes "RuntimeException" ∷ codes "Error"
-    ∷ codes "ArithmeticException" ∷ codes "NullPointerException" ∷ codes "NegativeArraySizeException"
-    ∷ codes "FallbackError" ∷ codes "ClassCastException" ∷ codes "ArrayStoreException"
-    ∷ codes "IndexOutOfBoundsException" ∷ codes "ArrayIndexOutOfBoundsException"
-    ∷ codes "IllegalArgumentException" ∷ codes "IllegalStateException"
-    ∷ codes "UnsupportedOperationException" ∷ codes "StackOverflowError" ∷ codes "RequiresError" ∷ []
+built_in_names = map name_of all_built_in
 
 -- the two names that are known and are no class of the table
 unfoldable pub library_names : List Name

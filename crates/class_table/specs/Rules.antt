@@ -3,15 +3,16 @@ use Rattle.std.specs.Prelude.{ℕ, ◌≡◌, ◌<◌, ◌⊎◌, ◌==◌, Bool
 use Rattle.std.specs.Bool.{beq}
 use Rattle.std.specs.List.{slice_get, list_any, list_all}
 use Rattle.std.specs.Option.{option_map_or}
+use Rattle.core_tree.specs.Types.{is_checked_by}
 use Rattle.java_syntax.specs.declared.class.ClassTree.{ClassTree}
 use Rattle.java_syntax.specs.declared.class.FileTree.{FileTree}
 use Rattle.java_syntax.specs.declared.class.Member.{Member}
 use Rattle.java_syntax.specs.declared.class.Member.TheVariants.{Maker}
-use Rattle.java_syntax.specs.declared.fault.Fault.{Fault}
-use Rattle.java_syntax.specs.declared.name.Ident.{Ident}
-use Rattle.java_syntax.specs.declared.name.TypeTree.{TypeTree}
-use Rattle.java_syntax.specs.declared.name.BaseType.{BaseType}
-use Rattle.java_syntax.specs.declared.name.BaseType.TheVariants.{Class}
+use Rattle.token_reading.specs.declared.fault.Fault.{Fault}
+use Rattle.token_reading.specs.declared.name.Ident.{Ident}
+use Rattle.token_reading.specs.declared.name.TypeTree.{TypeTree}
+use Rattle.token_reading.specs.declared.name.BaseType.{BaseType}
+use Rattle.token_reading.specs.declared.name.BaseType.TheVariants.{Class}
 use Rattle.class_table.specs.declared.row.FieldRow.{FieldRow}
 use Rattle.class_table.specs.declared.row.MethodRow.{MethodRow}
 use Rattle.class_table.specs.declared.row.MakerRow.{MakerRow}
@@ -79,9 +80,10 @@ rule_4 tree at =
 
 -- ---- methods and constructors
 
--- 5: two methods of one class with the same name and number of parameters, or two constructors of one class with the same
--- number; at the second's name
--- a method is called like one before it: its signature stands among theirs
+-- Rule 5, at the second's name: two methods of one class with the same name and number of parameters, or two
+-- constructors of one class with the same number.
+
+-- a method's signature stands among those before it
 abbrev pub SignatureAmong : List Signature → MethodRow → ℕ → Type 0
 SignatureAmong keys m at = (list_any (same_signature (signature_of m)) keys ≡ true) × (at ≡ m.at)
 
@@ -99,9 +101,9 @@ rule_5 tree at =
     InSome (declared_of tree.classes) (λ number d. InSome d.methods (CalledAlike d.methods)) at
     ⊎ InSome (declared_of tree.classes) (λ number d. InSome d.makers (SameArity d.makers)) at
 
--- the checked classes: Throwable and the classes below it, other than RuntimeException, Error and those below these
+-- the class is checked
 abbrev pub is_checked : List Declaration → ℕ → Bool
-is_checked declared c = is_below declared c 1 && not (is_below declared c 3) && not (is_below declared c 4)
+is_checked declared = is_checked_by (is_below declared)
 
 -- the number of a checked class of that name
 abbrev pub checked_number : List Name → List Declaration → Name → Option ℕ
@@ -112,8 +114,8 @@ abbrev pub is_allowed : List Name → List Declaration → List Name → Name �
 is_allowed names declared allowed name =
     option_map_or (λ c. list_any (λ other. option_map_or (is_below declared c) (checked_number names declared other) false) allowed) (checked_number names declared name) true
 
--- m may override a: that one isn't private, and this one has the same parameter types, result type and staticness, isn't
--- private, and declares no checked class that is no subclass of one declared there
+-- m may override a: that one isn't private, and this one has the same parameter types, result type and staticness,
+-- isn't private, and declares no checked class that isn't a subclass of one declared there
 abbrev pub may_override : List Name → List Declaration → MethodRow → MethodRow → Bool
 may_override names declared m a =
     not (is_private a.mods) && same_types m.params a.params && same_answer m.answer a.answer && beq (is_static m.mods) (is_static a.mods)
@@ -161,8 +163,8 @@ NoMain declared at = (list_any (λ d. list_any is_main d.methods) declared ≡ f
 abbrev pub rule_7 : FileTree → ℕ → Type 0
 rule_7 tree = NoMain (declared_of tree.classes)
 
--- 8: a class has the name of a built-in class, String or System, or a constructor has another name than its class; at its
--- name
+-- 8: a class has the name of a built-in class, String or System, or a constructor has another name than its class; at
+-- its name
 abbrev pub is_reserved : Name → Bool
 is_reserved name = list_any (same_name name) built_in_names || list_any (same_name name) library_names
 
@@ -183,8 +185,8 @@ ClassFault names c f = OfRule 2 (UnknownSuperclass names c.parent) f ⊎ InSome 
 abbrev pub rule_8 : FileTree → ℕ → Type 0
 rule_8 tree at = InSome tree.classes (λ number. NameReserved) at ⊎ InSome tree.classes MakerNamedOtherwise at
 
--- 9: more than 1,000 classes, at the first beyond; or more than 255 instance fields, inherited ones included, at the class's
--- name
+-- 9: more than 1,000 classes, at the first beyond; or more than 255 instance fields, inherited ones included, at the
+-- class's name
 abbrev pub BeyondLimit : ℕ → ClassTree → ℕ → Type 0
 BeyondLimit number c at = (number ≡ 1000) × (at ≡ c.name.at)
 

@@ -1,17 +1,16 @@
-//! The built-in classes.
+//! What the built-in classes declare.
 
-ghost use Rattle.std.specs.Prelude.{◌≡◌, IfOk, OnOk, [], ◌∷◌, ◌++◌, List, ℕ};
+ghost use Rattle.std.specs.Prelude.{◌≡◌, IfOk, map, option_map};
+ghost use Rattle.core_tree.specs.BuiltIn.{number_of, parent_of};
 ghost use Rattle.class_table.specs.BuiltIn as spec;
 
 use crate::declaration::Declaration;
-use crate::row::{FieldRow, MakerRow, MethodRow, Shared};
+use crate::row::{FieldRow, MakerRow, MethodRow};
+use core_tree::{BuiltIn, Shared};
 use java_syntax::{BaseType, Ident, Modifier, Mods, TypeTree};
 use java_tokens::Name;
 use sqlite_items::Items;
 use std::alloc::{AllocError, Global};
-
-/// How many built-in classes there are.
-pub const COUNT: u32 = 18;
 
 /// The name that is spelled by these ASCII characters.
 pub fn name(alloc: Global, text: &[u8]) -> Result<Name, AllocError>
@@ -48,21 +47,6 @@ fn maker(alloc: Global, params: Items<TypeTree>) -> Result<MakerRow, AllocError>
         params,
         throws: Items::new(alloc),
         mods: public_mods(alloc)?,
-        at: 0,
-    })
-}
-
-fn object(alloc: Global) -> Result<Declaration, AllocError>
-    ensures { IfOk result (λ class. class ≡ spec.object) }
-{
-    let mut makers = Items::new(alloc);
-    makers.push(maker(alloc, Items::new(alloc))?)?;
-    Ok(Declaration {
-        name: name(alloc, b"Object")?,
-        parent: None,
-        fields: Items::new(alloc),
-        methods: Shared::new(alloc, Items::new(alloc))?,
-        makers: Shared::new(alloc, makers)?,
         at: 0,
     })
 }
@@ -107,45 +91,72 @@ fn get_message(alloc: Global) -> Result<MethodRow, AllocError>
     })
 }
 
-fn throwable(alloc: Global) -> Result<Declaration, AllocError>
-    ensures { IfOk result (λ class. class ≡ spec.throwable) }
+fn fields(alloc: Global, class: BuiltIn) -> Result<Items<FieldRow>, AllocError>
+    ensures { IfOk result (λ fields. fields ≡ spec.fields_of class) }
 {
     let mut fields = Items::new(alloc);
-    fields.push(message_field(alloc)?)?;
+    match class {
+        BuiltIn::Throwable => fields.push(message_field(alloc)?)?,
+        _ => {}
+    }
+    Ok(fields)
+}
+
+fn methods(alloc: Global, class: BuiltIn) -> Result<Items<MethodRow>, AllocError>
+    ensures { IfOk result (λ methods. methods ≡ spec.methods_of class) }
+{
     let mut methods = Items::new(alloc);
-    methods.push(get_message(alloc)?)?;
+    match class {
+        BuiltIn::Throwable => methods.push(get_message(alloc)?)?,
+        _ => {}
+    }
+    Ok(methods)
+}
+
+fn makers(alloc: Global, class: BuiltIn) -> Result<Items<MakerRow>, AllocError>
+    ensures { IfOk result (λ makers. makers ≡ spec.makers_of class) }
+{
+    match class {
+        BuiltIn::Object => {
+            let mut makers = Items::new(alloc);
+            makers.push(maker(alloc, Items::new(alloc))?)?;
+            Ok(makers)
+        }
+        _ => exception_makers(alloc),
+    }
+}
+
+fn parent(class: BuiltIn) -> Option<u32>
+    ensures { result ≡ option_map number_of (parent_of class) }
+{
+    match class.parent() {
+        Some(parent) => Some(parent.number()),
+        None => None,
+    }
+}
+
+fn declaration(alloc: Global, class: BuiltIn) -> Result<Declaration, AllocError>
+    ensures { IfOk result (λ d. d ≡ spec.declaration_of class) }
+{
     Ok(Declaration {
-        name: name(alloc, b"Throwable")?,
-        parent: Some(0),
-        fields,
-        methods: Shared::new(alloc, methods)?,
-        makers: Shared::new(alloc, exception_makers(alloc)?)?,
+        name: name(alloc, class.name().as_bytes())?,
+        parent: parent(class),
+        fields: fields(alloc, class)?,
+        methods: Shared::new(alloc, methods(alloc, class)?)?,
+        makers: Shared::new(alloc, makers(alloc, class)?)?,
         at: 0,
     })
 }
 
-fn exception(alloc: Global, text: &[u8], parent: u32) -> Result<Declaration, AllocError>
-    ensures { IfOk result (λ class. class ≡ spec.exception text.now parent) }
+// What each of some built-in classes declares.
+fn declarations(alloc: Global, classes: &[BuiltIn]) -> Result<Items<Declaration>, AllocError>
+    ensures { IfOk result (λ all. all ≡ map spec.declaration_of classes.now) }
 {
-    Ok(Declaration {
-        name: name(alloc, text)?,
-        parent: Some(parent),
-        fields: Items::new(alloc),
-        methods: Shared::new(alloc, Items::new(alloc))?,
-        makers: Shared::new(alloc, exception_makers(alloc)?)?,
-        at: 0,
-    })
-}
-
-fn add(
-    alloc: Global,
-    classes: &mut Items<Declaration>,
-    text: &[u8],
-    parent: u32,
-) -> Result<(), AllocError>
-    ensures { OnOk result (classes.new ≡ classes.old ++ spec.exception text.now parent ∷ []) }
-{
-    classes.push(exception(alloc, text, parent)?)
+    let mut all = Items::new(alloc);
+    for class in classes {
+        all.push(declaration(alloc, *class)?)?;
+    }
+    Ok(all)
 }
 
 /// The built-in classes by their numbers.
@@ -153,24 +164,5 @@ fn add(
 pub fn built_in(alloc: Global) -> Result<Items<Declaration>, AllocError>
     ensures { IfOk result (λ classes. classes ≡ spec.built_in) }
 {
-    let mut classes = Items::new(alloc);
-    classes.push(object(alloc)?)?;
-    classes.push(throwable(alloc)?)?;
-    add(alloc, &mut classes, b"Exception", 1)?;
-    add(alloc, &mut classes, b"RuntimeException", 2)?;
-    add(alloc, &mut classes, b"Error", 1)?;
-    add(alloc, &mut classes, b"ArithmeticException", 3)?;
-    add(alloc, &mut classes, b"NullPointerException", 3)?;
-    add(alloc, &mut classes, b"NegativeArraySizeException", 3)?;
-    add(alloc, &mut classes, b"FallbackError", 4)?;
-    add(alloc, &mut classes, b"ClassCastException", 3)?;
-    add(alloc, &mut classes, b"ArrayStoreException", 3)?;
-    add(alloc, &mut classes, b"IndexOutOfBoundsException", 3)?;
-    add(alloc, &mut classes, b"ArrayIndexOutOfBoundsException", 11)?;
-    add(alloc, &mut classes, b"IllegalArgumentException", 3)?;
-    add(alloc, &mut classes, b"IllegalStateException", 3)?;
-    add(alloc, &mut classes, b"UnsupportedOperationException", 3)?;
-    add(alloc, &mut classes, b"StackOverflowError", 4)?;
-    add(alloc, &mut classes, b"RequiresError", 4)?;
-    Ok(classes)
+    declarations(alloc, &BuiltIn::ALL)
 }

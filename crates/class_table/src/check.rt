@@ -94,7 +94,7 @@ fn classes_of(alloc: Global, classes: &[ClassTree]) -> Result<Index, CheckError>
     make_index(alloc, names, declared)
 }
 
-/// Sees that the members of the classes break no rule together.
+/// Checks that the members of the classes break no rule together.
 #[tactic(auto, using(crate::proofs::CheckLemmas::members_found))]
 fn check_members(alloc: Global, index: &Index, declared: &[Declaration]) -> Result<(), CheckError>
     requires index { IsIndex index.now }
@@ -135,7 +135,7 @@ fn rows_of(
 ///
 /// # Errors
 /// `Fault` with the number of a rule of 1 to 9 and the number of a token, counted from 0, at which that rule is broken:
-/// any one of them where several are. `OutOfMemory` where there is no memory left.
+/// any one of them where several are. `OutOfMemory` where memory runs out.
 #[tactic(auto, using(crate::proofs::CheckLemmas::table_found))]
 pub fn table(alloc: Global, tree: &FileTree) -> Result<ClassTable, CheckError>
     ensures table { IfOk result (λ table. table ≡ table_of tree.now) }

@@ -22,7 +22,7 @@ fn copy_base(base: &BaseType) -> Result<BaseType, AllocError>
     }
 }
 
-/// A copy of a type. `AllocError` where there is no memory left.
+/// A copy of a type. `AllocError` where memory runs out.
 pub fn copy_type(ty: &TypeTree) -> Result<TypeTree, AllocError>
     ensures { IfOk result (λ copy. copy ≡ ty.now) }
 {
@@ -32,7 +32,7 @@ pub fn copy_type(ty: &TypeTree) -> Result<TypeTree, AllocError>
     })
 }
 
-/// A copy of a result type, `None` for `void`. `AllocError` where there is no memory left.
+/// A copy of a result type, `None` for `void`. `AllocError` where memory runs out.
 pub fn copy_answer(answer: &Option<TypeTree>) -> Result<Option<TypeTree>, AllocError>
     ensures { IfOk result (λ copy. copy ≡ answer.now) }
 {
@@ -42,7 +42,7 @@ pub fn copy_answer(answer: &Option<TypeTree>) -> Result<Option<TypeTree>, AllocE
     }
 }
 
-/// A copy of modifiers, in order. `AllocError` where there is no memory left.
+/// A copy of modifiers, in order. `AllocError` where memory runs out.
 pub fn copy_mods(alloc: Global, mods: &Mods) -> Result<Mods, AllocError>
     ensures { IfOk result (λ copy. copy ≡ mods.now) }
 {

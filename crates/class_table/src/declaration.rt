@@ -1,6 +1,7 @@
 //! What a class declares by itself.
 
-use crate::row::{FieldRow, MakerRow, MethodRow, Shared};
+use crate::row::{FieldRow, MakerRow, MethodRow};
+use core_tree::Shared;
 use java_tokens::Name;
 use sqlite_items::Items;
 

@@ -1,19 +1,18 @@
 //! What each class declares by itself, and the rules on superclasses and on the names of constructors.
 
 ghost use Rattle.std.specs.Prelude.{◌≡◌, ◌⊎◌, ◌+◌, ◌≤◌, ◌++◌, length, IfOk, IfErr, OnOk};
-ghost use Rattle.java_syntax.specs.declared.fault.Fault.{Fault};
-ghost use Rattle.class_table.specs.BuiltIn as spec_built;
+ghost use Rattle.token_reading.specs.declared.fault.Fault.{Fault};
+ghost use Rattle.core_tree.specs.BuiltIn.{first_class};
 ghost use Rattle.class_table.specs.Declarations as spec;
 ghost use Rattle.class_table.specs.Names.{library_names};
 ghost use Rattle.class_table.specs.Faults.{Blames, Clear, InSome, OfRule};
 ghost use Rattle.class_table.specs.Rules.{ClassFault, NamedOtherwise, UnknownSuperclass};
 
-use crate::built_in::COUNT;
 use crate::declaration::Declaration;
 use crate::keys::Keys;
 use crate::members::{fields, makers, methods};
 use crate::names::fault;
-use crate::row::Shared;
+use core_tree::{FIRST_CLASS, Shared};
 use java_syntax::{CheckError, ClassTree, Member};
 use java_tokens::Name;
 use sqlite_items::Items;
@@ -43,7 +42,7 @@ fn parent(
     }
 }
 
-/// Sees that a constructor has the name of its class.
+/// Checks that a constructor has the name of its class.
 fn check_member(name: &Name, member: &Member) -> Result<(), CheckError>
     ensures fault { IfErr result (Blames (OfRule 8 (NamedOtherwise name.now member.now))) }
     ensures clear { OnOk result (Clear (OfRule 8 (NamedOtherwise name.now member.now))) }
@@ -56,7 +55,7 @@ fn check_member(name: &Name, member: &Member) -> Result<(), CheckError>
     Ok(())
 }
 
-/// Sees that the constructors have the name of their class.
+/// Checks that the constructors have the name of their class.
 #[tactic(auto, using(crate::proofs::Faults::loops))]
 fn check_members(name: &Name, members: &[Member]) -> Result<(), CheckError>
     ensures fault { IfErr result (Blames (InSome members.now (λ _ member. OfRule 8 (NamedOtherwise name.now member)))) }
@@ -107,12 +106,12 @@ pub fn declare(
     requires few { length names.now ≤ 1018 }
     requires classes { length classes.now ≤ 1000 }
     requires library { library.now ≡ library_names }
-    ensures value { IfOk result (λ all. all ≡ built ++ spec.declarations names.now 18 classes.now) }
+    ensures value { IfOk result (λ all. all ≡ built ++ spec.declarations names.now first_class classes.now) }
     ensures fault { IfErr result (Blames (InSome classes.now (λ _. ClassFault names.now))) }
     ensures clear { OnOk result (Clear (InSome classes.now (λ _. ClassFault names.now))) }
 {
     let mut all = built;
-    let mut number = COUNT;
+    let mut number = FIRST_CLASS;
     for class in classes {
         all.push(declaration(alloc, names, library, number, class)?)?;
         number += 1;

@@ -113,7 +113,7 @@ fn is_hidden(index: &Index, class: usize, field: &FieldRow) -> bool
     any_declares(index, above(index.lines.as_slice(), class), field)
 }
 
-/// Sees that no superclass declares a field of the name of this one.
+/// Checks that no superclass declares a field of the name of this one.
 fn check_field(index: &Index, class: usize, field: &FieldRow) -> Result<(), CheckError>
     requires { IsIndex index.now }
     ensures fault { IfErr result (Blames (OfRule 4 (FieldHidden index.now.declared class field.now))) }
@@ -125,7 +125,7 @@ fn check_field(index: &Index, class: usize, field: &FieldRow) -> Result<(), Chec
     Ok(())
 }
 
-/// Sees that no superclass declares a field of the name of one of these.
+/// Checks that no superclass declares a field of the name of one of these.
 #[tactic(auto, using(crate::proofs::Faults::loops))]
 fn check_class(index: &Index, class: usize, fields: &[FieldRow]) -> Result<(), CheckError>
     requires { IsIndex index.now }
@@ -138,7 +138,7 @@ fn check_class(index: &Index, class: usize, fields: &[FieldRow]) -> Result<(), C
     Ok(())
 }
 
-/// Sees that no class declares a field of the name of a superclass's.
+/// Checks that no class declares a field of the name of a superclass's.
 #[tactic(auto, using(crate::proofs::Faults::loops))]
 pub fn check_hidden(index: &Index, declared: &[Declaration]) -> Result<(), CheckError>
     requires { IsIndex index.now }

@@ -127,7 +127,7 @@ fn any_main(declared: &[Declaration], main: &Name, string: &Name) -> bool
     declared.iter().any(|class| has_main(class.methods.get().as_slice(), main, string))
 }
 
-/// Sees that a class declares `static void main` with one parameter of type `String[]`.
+/// Checks that a class declares `static void main` with one parameter of type `String[]`.
 pub fn check_main(alloc: Global, declared: &[Declaration]) -> Result<(), CheckError>
     ensures fault { IfErr result (Blames (OfRule 7 (NoMain declared.now))) }
     ensures clear { OnOk result (Clear (OfRule 7 (NoMain declared.now))) }

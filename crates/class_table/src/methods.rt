@@ -81,7 +81,7 @@ pub fn signatures_by_class(
     Ok(keys)
 }
 
-/// Sees that no two constructors of a class have one number of parameters.
+/// Checks that no two constructors of a class have one number of parameters.
 fn check_arities(alloc: Global, makers: &[MakerRow]) -> Result<(), CheckError>
     ensures fault { IfErr result (Blames (InSome makers.now (λ place m. OfRule 5 (SameArity makers.now place m)))) }
     ensures clear { OnOk result (Clear (InSome makers.now (λ place m. OfRule 5 (SameArity makers.now place m)))) }
@@ -93,7 +93,7 @@ fn check_arities(alloc: Global, makers: &[MakerRow]) -> Result<(), CheckError>
     Ok(())
 }
 
-/// Sees that no two constructors of any class have one number of parameters.
+/// Checks that no two constructors of any class have one number of parameters.
 #[tactic(auto, using(crate::proofs::Faults::loops))]
 pub fn check_makers(alloc: Global, declared: &[Declaration]) -> Result<(), CheckError>
     ensures fault { IfErr result (Blames (InSome declared.now (λ number d. InSome d.makers (λ place m. OfRule 5 (SameArity d.makers place m))))) }

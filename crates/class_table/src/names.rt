@@ -1,7 +1,7 @@
 //! The names of the classes, and the rules on them.
 
 ghost use Rattle.std.specs.Prelude.{◌≡◌, false, [], ◌∷◌, ◌++◌, ◌⊎◌, ◌||◌, ◌≤◌, length, IfOk, IfErr, OnOk, map};
-ghost use Rattle.java_syntax.specs.declared.fault.Fault.{Fault};
+ghost use Rattle.token_reading.specs.declared.fault.Fault.{Fault};
 ghost use Rattle.std.specs.List.{list_any};
 ghost use Rattle.class_table.specs.BuiltIn.{built_in};
 ghost use Rattle.class_table.specs.Names.{built_in_names, class_names, library_names, same_name};
@@ -49,7 +49,7 @@ fn built_in_keys(alloc: Global, built: &[Declaration]) -> Result<Keys<Name>, All
     Ok(keys)
 }
 
-/// Sees that no class has the name of a built-in class, `String` or `System`.
+/// Checks that no class has the name of a built-in class, `String` or `System`.
 fn check_reserved(
     built_names: &Keys<Name>,
     library: &Keys<Name>,

@@ -19,6 +19,7 @@ use crate::index::Index;
 use crate::methods::signature;
 use crate::names::fault;
 use crate::row::{MethodRow, Signature};
+use core_tree::BuiltIn;
 use java_syntax::{BaseType, CheckError, TypeTree};
 use java_tokens::Name;
 use sqlite_items::{Items, at};
@@ -82,12 +83,15 @@ fn is_below(index: &Index, class: u32, other: u32) -> bool
     }
 }
 
-/// Whether a class is checked (JLS 11.1.1): `Throwable` or below it, and not `RuntimeException`, `Error` or below these.
+/// Whether a class is checked (JLS 11.1.1): `Throwable` or below it, and not `RuntimeException`, `Error` or below
+/// these.
 fn is_checked(index: &Index, class: u32) -> bool
     requires { IsIndex index.now }
     ensures { result ≡ rule.is_checked index.now.declared class }
 {
-    is_below(index, class, 1) && !is_below(index, class, 3) && !is_below(index, class, 4)
+    is_below(index, class, BuiltIn::Throwable.number())
+        && !is_below(index, class, BuiltIn::RuntimeException.number())
+        && !is_below(index, class, BuiltIn::Error.number())
 }
 
 /// The number of the checked class of that name.
@@ -228,7 +232,7 @@ fn fits_nearest(index: &Index, class: usize, method: &MethodRow, key: &Signature
     }
 }
 
-/// Sees that a method of a class may override the nearest method above.
+/// Checks that a method of a class may override the nearest method above.
 fn check_method(index: &Index, class: usize, method: &MethodRow) -> Result<(), CheckError>
     requires index { IsIndex index.now }
     requires few { length index.now.names < 2 ^ 32 }
@@ -243,7 +247,7 @@ fn check_method(index: &Index, class: usize, method: &MethodRow) -> Result<(), C
     }
 }
 
-/// Sees that each method of a class may override the nearest method above.
+/// Checks that each method of a class may override the nearest method above.
 #[tactic(auto, using(crate::proofs::Faults::loops))]
 fn check_class(index: &Index, class: usize, methods: &[MethodRow]) -> Result<(), CheckError>
     requires index { IsIndex index.now }
@@ -257,7 +261,7 @@ fn check_class(index: &Index, class: usize, methods: &[MethodRow]) -> Result<(),
     Ok(())
 }
 
-/// Sees that each method of each class may override the nearest method above.
+/// Checks that each method of each class may override the nearest method above.
 #[tactic(auto, using(crate::proofs::Faults::loops))]
 fn check_nearest(index: &Index, declared: &[Declaration]) -> Result<(), CheckError>
     requires index { IsIndex index.now }
@@ -273,7 +277,7 @@ fn check_nearest(index: &Index, declared: &[Declaration]) -> Result<(), CheckErr
     Ok(())
 }
 
-/// Sees that each method may override those of all superclasses of its class. A method above has itself been compared
+/// Checks that each method may override those of all superclasses of its class. A method above has itself been compared
 /// with those above it, so the nearest is enough.
 pub fn check_overriding(index: &Index, declared: &[Declaration]) -> Result<(), CheckError>
     requires index { IsIndex index.now }

@@ -1,56 +1,15 @@
 //! The rows of the class table.
 
-ghost use Rattle.std.specs.Prelude.{◌≡◌, ◌<◌, ◌≤◌, IfOk, flat_map, length};
+ghost use Rattle.std.specs.Prelude.{◌≡◌, ◌≤◌, flat_map, length, map};
 ghost use Rattle.class_table.specs.Names.{number_of};
+ghost use Rattle.class_table.specs.TableFacts.{IsTable};
 
 use crate::keys::Keys;
+use core_tree::Shared;
 use java_syntax::{Mods, TypeTree};
 use java_tokens::Name;
 use sqlite_items::Items;
-use std::alloc::{AllocError, Global};
 use std::marker::Model;
-use std::rc::Rc;
-
-/// A value with several owners, that contracts see as the value.
-#[derive(Drop)]
-pub struct Shared<T> {
-    inner: Rc<T>,
-}
-
-impl<T> Model for Shared<T> {
-    ghost Value = { T };
-
-    ghost coded = { T.code };
-
-    ghost view = { λ shared. shared.inner.value };
-}
-
-impl<T: Drop> Shared<T> {
-    /// The value, with one owner. `AllocError` where there is no memory left.
-    pub fn new(alloc: Global, value: T) -> Result<Shared<T>, AllocError>
-        ensures { IfOk result (λ shared. shared ≡ value) }
-    {
-        Ok(Shared {
-            inner: Rc::new(alloc, value)?,
-        })
-    }
-
-    /// The value.
-    pub fn get(&self) -> &T
-        ensures { result.now ≡ self.now }
-    {
-        self.inner.as_ref()
-    }
-
-    /// One owner more of the same value, which is not copied. `AllocError` where there is no memory left.
-    pub fn share(&self) -> Result<Shared<T>, AllocError>
-        ensures { IfOk result (λ shared. shared ≡ self.now) }
-    {
-        Ok(Shared {
-            inner: self.inner.clone()?,
-        })
-    }
-}
 
 /// A field or a constant of a class (JLS 8.3).
 #[derive(Drop)]
@@ -80,7 +39,7 @@ pub struct MethodRow {
     pub names: Items<Name>,
     /// The type of its result; `None` for `void`.
     pub answer: Option<TypeTree>,
-    /// The names behind `throws` in order.
+    /// The names after `throws` in order.
     pub throws: Items<Name>,
     /// The modifiers in order.
     pub mods: Mods,
@@ -93,7 +52,7 @@ pub struct MethodRow {
 pub struct MakerRow {
     /// The types of the parameters in order.
     pub params: Items<TypeTree>,
-    /// The names behind `throws` in order.
+    /// The names after `throws` in order.
     pub throws: Items<Name>,
     /// The modifiers in order.
     pub mods: Mods,
@@ -101,8 +60,8 @@ pub struct MakerRow {
     pub at: u32,
 }
 
-/// The fields of a class, those of its superclasses first. The lists of the superclasses are shared with them. Contracts
-/// see one list.
+/// The fields of a class, those of its superclasses first. The lists of the superclasses are shared with them.
+/// Contracts see one list.
 #[derive(Drop)]
 pub struct Fields {
     parts: Items<Shared<Items<FieldRow>>>,
@@ -171,13 +130,12 @@ pub struct ClassTable {
 
 impl ClassTable {
     /// The number of the class of that name, counted from 0, or `None` where no class has it (JLS 6.3). It takes no
-    /// memory.
+    /// memory. What is promised is promised of every table that `table` gives.
     pub fn find(&self, name: &Name) -> Option<u32>
-        requires { length self.now.names ≤ 1018 }
-        ensures { result ≡ number_of self.now.names name.now }
+        ensures { IsTable self.now → result ≡ number_of (map (λ row. row.name) self.now.classes) name.now }
     {
         match self.names.number(name) {
-            Some(number) => Some(number as u32),
+            Some(number) => u32::try_from(number).ok(),
             None => None,
         }
     }

@@ -1,4 +1,5 @@
--- Propagated clauses stay propagated while the trail grows, and a literal more may be counted once its clauses were visited.
+-- Propagated clauses stay propagated while the trail grows, and a literal more may be counted once its clauses were
+-- visited.
 use Rattle.std.proofs.Common.{◌≡◌, ℕ, ◌+◌, ◌-◌, ◌<◌, ◌≤◌, true, false, ℤ, pos, List, [], ◌∷◌, ◌++◌, length, get_or, take, refl, sym, ◌∙◌, ap, subst, inl, inr, arith, length-append, append_assoc}
 use Rattle.std.specs.Prelude.{neg_ℤ, slice_index}
 use Rattle.std.specs.List.{All}

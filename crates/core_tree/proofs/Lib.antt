@@ -1,5 +1,13 @@
 pub mod ExprNodes
 pub mod StmtNodes
 pub mod TypeNodes
+pub mod TypeFacts
+pub mod BoundNodes
+pub mod TermNodes
+pub mod FormulaNodes
+pub mod OtherTypes
+pub mod OtherPrograms
 pub mod WorkedPrograms
 pub mod WorkedDispatch
+pub mod WorkedTerms
+pub mod WorkedContracts

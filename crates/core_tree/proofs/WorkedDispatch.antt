@@ -1,5 +1,5 @@
--- Two classes, the second below the first and with a method of its own in place of the inherited one: the program is well
--- typed, and each of a few changes makes it ill typed.
+-- Two classes, the second below the first and with a method of its own in place of the inherited one: the program is
+-- well typed, and each of a few changes makes it ill typed.
 use Rattle.std.proofs.Common.{◌≡◌, ℕ, pos, Bool, IsTrue, List, [], ◌∷◌, ◌++◌, Option, Some, None, true, false, codes, refl, arith, length, map, ap, slice_get}
 use denote.Hole.Carrier.{out, shown, hidden}
 use Rattle.std.specs.Int.{int_wrap}
@@ -53,6 +53,7 @@ f_of owner answer e = record {
   answer = answer;
   locals = [];
   body = stmt.Return (Some e) ∷ [];
+  contract = None;
 }
 
 -- the constructor of a class that none is written in
@@ -78,6 +79,7 @@ main_method = record {
   answer = ty.Void;
   locals = ty.Class 18 ∷ [];
   body = body;
+  contract = None;
 }
 
 -- the program in which B has these fields, and an f with this result
@@ -90,7 +92,7 @@ family fields answer e = record {
 }
 
 -- B's f is: return x;
-abbrev good : Program
+abbrev pub good : Program
 good = family (x ∷ []) ty.Int (view.Field expr.This 0)
 
 abbrev scope_of : ℕ → Scope
@@ -114,7 +116,7 @@ unfolding out-Ty out shown-the_row-Ty-0 shown hidden line_within
 call_of_f = rw (type_of-Chosen good main_scope (expr.Local 1) 1 [] site, type_of-Local good main_scope 1) refl
 
 -- the program is well typed
-good_is_well_typed : IsWellTyped good
+pub good_is_well_typed : IsWellTyped good
 unfolding line_within out-Ty out shown-the_row-Ty-0 shown hidden int_wrap
 good_is_well_typed = record {
   few_classes = omega arith;
@@ -145,6 +147,7 @@ good_is_well_typed = record {
   ) refl;
   makers = refl;
   main = rw (is_same_type-Array ty.Text, is_same_type-Text) refl;
+  contracts = refl;
 }
 
 -- true isn't false

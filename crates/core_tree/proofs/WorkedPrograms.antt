@@ -37,6 +37,7 @@ main_method body = record {
   answer = ty.Void;
   locals = [];
   body = body;
+  contract = None;
 }
 
 abbrev only_main : List Stmt → Program
@@ -79,4 +80,5 @@ print_sum_is_well_typed = record {
   ) refl;
   makers = refl;
   main = rw (is_same_type-Array ty.Text, is_same_type-Text) refl;
+  contracts = refl;
 }

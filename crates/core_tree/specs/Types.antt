@@ -1,15 +1,18 @@
 -- Classes and their superclasses, and which types a variable of another type can hold.
-use Rattle.std.specs.Prelude.{ℕ, zero, suc, Bool, true, false, ◌||◌, ◌==◌, List, [], ◌∷◌, length, Option, Some, None, option_map, option_and_then, slice_get, is_some, nat_lt}
+use Rattle.std.specs.Prelude.{ℕ, zero, suc, Bool, true, false, not, ◌&&◌, ◌||◌, ◌==◌, List, [], ◌∷◌, length, Option, Some, None, option_map, option_and_then, slice_get, is_some, nat_lt}
 use Rattle.std.specs.Option.{option_map_or}
 use Rattle.std.specs.List.{list_any}
+use Rattle.core_tree.specs.declared.built_in.BuiltIn.TheVariants as built_in
 use Rattle.core_tree.specs.declared.ty.Ty.{Ty, out-Ty}
 use Rattle.core_tree.specs.declared.ty.Ty.TheOpen.{Ty-F}
 use Rattle.core_tree.specs.declared.ty.Ty.TheFolds.{fold-Ty}
 use Rattle.core_tree.specs.declared.program.Class.{Class}
+use Rattle.core_tree.specs.BuiltIn.{number_of}
 
 -- ---- classes
 
--- a class and its superclasses, from it upward (JLS 8.1.4), where at most so many steps lead to one without a superclass
+-- a class and its superclasses, from it upward (JLS 8.1.4), where at most that many steps lead to one without a
+-- superclass
 unfoldable pub line_within : ℕ → List Class → ℕ → Option (List ℕ)
 line_within zero classes c = None
 line_within (suc steps) classes c = option_and_then (λ class.
@@ -23,6 +26,13 @@ line_of classes c = line_within (length classes) classes c
 -- the first class is the second or below it
 abbrev pub is_subclass : List Class → ℕ → ℕ → Bool
 is_subclass classes c d = option_map_or (λ line. list_any (λ a. a == d) line) (line_of classes c) false
+
+-- the class is checked (JLS 11.1.1), by a test that the first class is the second or below it: Throwable and the classes
+-- below it, other than RuntimeException, Error and those below these
+abbrev pub is_checked_by : (ℕ → ℕ → Bool) → ℕ → Bool
+is_checked_by below c =
+    below c (number_of built_in.Throwable)
+    && (not (below c (number_of built_in.RuntimeException)) && not (below c (number_of built_in.Error)))
 
 -- ---- types
 
@@ -53,19 +63,27 @@ is_void t = elim (out-Ty t) [ Ty-F.Void ↦ true | _ ↦ false ]
 abbrev pub is_object : Ty → Bool
 is_object t = is_some (class_of t) || is_some (elements_of t)
 
-abbrev pub assignable_node : List Class → Ty-F (Ty → Bool) → Ty → Bool
-assignable_node classes Ty-F.Int to = is_int to
-assignable_node classes Ty-F.Bool to = is_boolean to
-assignable_node classes Ty-F.Text to = is_string to
-assignable_node classes (Ty-F.Class c) to = option_map_or (is_subclass classes c) (class_of to) false
-assignable_node classes (Ty-F.Array fits) to = option_map_or (λ d. d == 0) (class_of to) (option_map_or fits (elements_of to) false)
-assignable_node classes Ty-F.Null to = is_null to || is_string to || is_object to
-assignable_node classes Ty-F.Void to = false
+abbrev pub is_array : Ty → Bool
+is_array t = is_some (elements_of t)
 
--- a value of the first type may be assigned to a variable of the second (JLS 5.2): a type to itself, a class to its
--- superclasses, null to String, classes and arrays, an array to Object and to an array whose elements it fits
+abbrev pub assignable_node : (ℕ → ℕ → Bool) → Ty-F (Ty → Bool) → Ty → Bool
+assignable_node below Ty-F.Int to = is_int to
+assignable_node below Ty-F.Bool to = is_boolean to
+assignable_node below Ty-F.Text to = is_string to
+assignable_node below (Ty-F.Class c) to = option_map_or (below c) (class_of to) false
+assignable_node below (Ty-F.Array fits) to = option_map_or (λ d. d == 0) (class_of to) (option_map_or fits (elements_of to) false)
+assignable_node below Ty-F.Null to = is_null to || is_string to || is_object to
+assignable_node below Ty-F.Void to = false
+
+-- a value of the first type may be assigned to a variable of the second (JLS 5.2), by a test of two classes, that the
+-- first is the second or below it: a type to itself, a class to its superclasses, null to String, classes and arrays,
+-- an array to Object and to an array whose elements it fits
+unfoldable pub is_assignable_by : (ℕ → ℕ → Bool) → Ty → Ty → Bool
+is_assignable_by below = fold-Ty (Ty → Bool) (assignable_node below)
+
+-- a value of the first type may be assigned to a variable of the second in a program with these classes
 unfoldable pub is_assignable : List Class → Ty → Ty → Bool
-is_assignable classes = fold-Ty (Ty → Bool) (assignable_node classes)
+is_assignable classes = is_assignable_by (is_subclass classes)
 
 abbrev pub same_type_node : Ty-F (Ty → Bool) → Ty → Bool
 same_type_node Ty-F.Int t = is_int t
@@ -87,6 +105,6 @@ value_type_node classes Ty-F.Null = false
 value_type_node classes Ty-F.Void = false
 value_type_node classes _ = true
 
--- a type that a variable, a field or an element may have, with so many classes
+-- a type that a variable, a field or an element may have, with that many classes
 unfoldable pub is_value_type : ℕ → Ty → Bool
 is_value_type classes = fold-Ty Bool (value_type_node classes)

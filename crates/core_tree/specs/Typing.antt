@@ -229,6 +229,12 @@ is_update update.BitXor a b = ints a b || booleans a b
 is_update update.Concat a b = has is_string a && has_text b
 is_update _ a b = ints a b
 
+-- an operator of which 1 may be the other operand, as in `i++` and `i--` (JLS 15.14.2)
+abbrev pub is_counting : UpOp → Bool
+is_counting update.Add = true
+is_counting update.Sub = true
+is_counting _ = false
+
 -- where there is an expression, its type passes the test
 abbrev pub if_there : Program → Scope → (PartType → Bool) → Option Expr → Bool
 if_there p s test e = option_map_or (λ it. test (type_of p s it)) e true
@@ -253,7 +259,8 @@ stmt_node p s (Stmt-F.Block all) inside = all_of all inside
 stmt_node p s (Stmt-F.Declare at t e) inside = has (is_same_type t) (slice_get s.locals at) && if_there p s (fits p t) e
 -- the value fits the variable
 stmt_node p s (Stmt-F.Assign to e) inside = option_map_or (λ t. fits p t (type_of p s e)) (target_type p s to) false
-stmt_node p s (Stmt-F.Update to op e) inside = is_update op (target_type p s to) (operand_type p s e)
+-- the operand fits the operator; only one that counts may have none
+stmt_node p s (Stmt-F.Update to op e) inside = is_update op (target_type p s to) (operand_type p s e) && (is_some e || is_counting op)
 -- an expression of any type, also a call without a result
 stmt_node p s (Stmt-F.Eval e) inside = is_some (type_of p s e)
 -- a value that has a text; only a print that ends a line may have none

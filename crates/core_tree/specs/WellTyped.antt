@@ -19,6 +19,7 @@ use Rattle.core_tree.specs.declared.program.Parent.TheVariants as parent
 use Rattle.core_tree.specs.declared.program.Program.{Program}
 use Rattle.core_tree.specs.BuiltIn.{number_of, is_built_in, built_in_classes}
 use Rattle.core_tree.specs.Types.{line_of, is_subclass, is_same_type, is_string, is_value_type, is_void}
+use Rattle.core_tree.specs.TypedContracts.{has_contracts}
 use Rattle.core_tree.specs.Typing.{Scope, fits, all_fit, type_of, is_throwable, chosen_method, is_typed_body}
 
 -- ---- classes
@@ -74,8 +75,8 @@ chosen_above p class = option_map_or (λ above. above.chosen) (option_and_then (
 abbrev pub is_message_method : Option Method → Bool
 is_message_method m = option_map_or (λ method. same_types method.params [] && is_string method.answer) m true
 
--- a class with its number: it isn't its own ancestor, all but Object have a superclass, it has at most 255 fields, and its
--- fields and methods are in order
+-- a class with its number: it isn't its own ancestor, all but Object have a superclass, it has at most 255 fields, and
+-- its fields and methods are in order
 abbrev pub is_class : Program → ℕ → Class → Bool
 is_class p c class =
     is_some (line_of p.classes c)
@@ -139,7 +140,7 @@ abbrev pub numbers_from : {X : Type 0} → ℕ → List X → List ℕ
 numbers_from n [] = []
 numbers_from n (x ∷ xs) = n ∷ numbers_from (suc n) xs
 
--- a body declares each of its locals behind the parameters once, in the order of their numbers
+-- a body declares each of its locals after the parameters once, in the order of their numbers
 abbrev pub is_numbered : List Ty → List Ty → List Stmt → Bool
 is_numbered params locals body = pointwise nat_eq (flat_map declared_numbers body) (numbers_from (length params) locals)
 
@@ -153,8 +154,8 @@ method_scope m = record {
   answer = m.answer;
 }
 
--- a method is of a class of the file, its parameters and locals have types of variables, its result such a type or none,
--- and its body is well typed
+-- a method is of a class of the file, its parameters and locals have types of variables, its result such a type or
+-- none, and its body is well typed
 abbrev pub is_method : Program → Method → Bool
 is_method p m =
     is_of_file p m.owner
@@ -176,8 +177,8 @@ is_parent p s b (parent.Message text) =
 is_parent p s b (parent.Maker k arguments) =
     option_map_or (λ maker. maker.owner == b && all_fit p maker.params (map (type_of p s) arguments)) (slice_get p.makers k) false
 
--- a constructor is of a class of the file, its parameters and locals have types of variables, it runs a constructor of its
--- class's superclass, and its body is well typed
+-- a constructor is of a class of the file, its parameters and locals have types of variables, it runs a constructor of
+-- its class's superclass, and its body is well typed
 abbrev pub is_maker : Program → Maker → Bool
 is_maker p k =
     is_of_file p k.owner
@@ -205,3 +206,5 @@ pub record IsWellTyped (p : Program) : Type 0 where
   pub methods : IsTrue (list_all (is_method p) p.methods)
   pub makers : IsTrue (list_all (is_maker p) p.makers)
   pub main : IsTrue (option_map_or is_main (slice_get p.methods p.main) false)
+  -- each contract is well typed
+  pub contracts : IsTrue (has_contracts p)

@@ -41,7 +41,7 @@ pub enum Expr {
     New(u32, Items<Expr>),
     /// A new object of this built-in class, with a message or without.
     NewBuilt(u32, Option<Boxed<Expr>>),
-    /// A new array with elements of this type and so many of them.
+    /// A new array with elements of this type and that many of them.
     NewArray(Ty, Boxed<Expr>),
     Unary(UnOp, Boxed<Expr>),
     Binary(BinOp, Boxed<Expr>, Boxed<Expr>),
@@ -52,6 +52,7 @@ pub enum Expr {
     Cast(Ty, Boxed<Expr>),
     /// `instanceof`.
     Is(Ty, Boxed<Expr>),
-    /// The texts of two values, one behind the other.
+    /// The texts of two values, one after the other; one of them is a String or null. Both may be null, since a
+    /// constant that is null stands here as the literal.
     Concat(Boxed<Expr>, Boxed<Expr>),
 }

@@ -1,5 +1,8 @@
-use crate::{Expr, Stmt, Text, Ty};
+ghost use Rattle.std.specs.Prelude.{◌≡◌, IfOk};
+
+use crate::{Contract, Expr, OutOfMemory, Shared, Stmt, Text, Ty};
 use sqlite_items::{Boxed, Items};
+use std::alloc::Global;
 
 /// A resolved program. The built-in classes come first, then those of the file in text order; methods and constructors
 /// are numbered in text order, and constructors that no source writes come last.
@@ -30,10 +33,28 @@ pub struct Class {
 pub struct Field {
     pub name: Text,
     pub ty: Ty,
-    /// Its initialiser.
-    pub start: Option<Boxed<Expr>>,
+    /// Its initialiser, which each class that inherits the field shares.
+    pub start: Option<Shared<Expr>>,
     /// The class that declares it.
     pub owner: u32,
+}
+
+impl Field {
+    /// The same field, as a subclass inherits it: its name and initialiser are shared, its type is copied.
+    pub fn share(&self, alloc: Global) -> Result<Field, OutOfMemory>
+        ensures { IfOk result (λ field. field ≡ self.now) }
+    {
+        let start = match &self.start {
+            Some(e) => Some(e.share()?),
+            None => None,
+        };
+        Ok(Field {
+            name: self.name.share()?,
+            ty: self.ty.copy(alloc)?,
+            start,
+            owner: self.owner,
+        })
+    }
 }
 
 /// A method of the file.
@@ -47,10 +68,12 @@ pub struct Method {
     pub params: Items<Ty>,
     /// The type of its result, or `Void`.
     pub answer: Ty,
-    /// The types of its other locals, declared ones and `catch` parameters, in text order. A local's number is its place
-    /// among the parameters and these.
+    /// The types of its other locals, declared ones and `catch` parameters, in text order. A local's number is its
+    /// place among the parameters and these.
     pub locals: Items<Ty>,
     pub body: Items<Stmt>,
+    /// The contract that its declaration states. An overriding method has only its own.
+    pub contract: Option<Boxed<Contract>>,
 }
 
 /// A constructor of a class of the file.
@@ -69,9 +92,9 @@ pub struct Maker {
 /// What a constructor does with the superclass.
 #[derive(Drop)]
 pub enum Parent {
-    /// The constructor of no parameters of a built-in class, which does nothing.
+    /// Object's constructor, which does nothing.
     Plain,
-    /// The constructor of one String of a built-in class, which sets the message.
+    /// A constructor of another built-in class, which sets the message; the one without parameters sets none.
     Message(Option<Boxed<Expr>>),
     /// The constructor with this number, of a class of the file.
     Maker(u32, Items<Expr>),

@@ -1,7 +1,7 @@
 use crate::{Expr, Ty, UpOp};
 use sqlite_items::{Boxed, Items};
 
-/// What an assignment writes to. It is no node of its own and takes no step.
+/// What an assignment writes to. It isn't a node of its own and takes no step.
 #[derive(Drop)]
 pub enum Target {
     Local(u32),

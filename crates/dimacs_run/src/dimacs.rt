@@ -39,7 +39,7 @@ struct Header {
 }
 
 /// The clauses of a text in the DIMACS form: lines that begin with `c` are comments, the first other line is
-/// `p cnf VARIABLES CLAUSES`, and the rest are literals, with a 0 behind each clause. A literal that stands in a clause
+/// `p cnf VARIABLES CLAUSES`, and the rest are literals, with a 0 after each clause. A literal that stands in a clause
 /// twice is read once.
 pub(crate) fn read_dimacs(alloc: Global, text: &str) -> Result<Clauses, DimacsError> {
     let mut lines: u32 = 0;

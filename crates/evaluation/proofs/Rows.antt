@@ -43,6 +43,7 @@ static_method params answer locals body = record {
   answer = answer;
   locals = locals;
   body = body;
+  contract = None;
 }
 
 -- a main with these locals and this body, and static methods without parameters, with these bodies, that answer an int
@@ -60,7 +61,7 @@ pub record Seen : Type 0 where
   pub left : ℕ
   pub out : List ℕ
 
--- what is seen of a run with these arguments and so many steps
+-- what is seen of a run with these arguments and that many steps
 seen_of : Program → List (List ℕ) → ℕ → Seen
 unfolding int_wrap digits meaning out-Expr out-Stmt out-Ty out shown-the_row-Expr-0 shown-the_row-Expr-1 shown-the_row-Stmt-0 shown-the_row-Stmt-1 shown-the_row-Catch-2 shown-the_row-Ty-0 shown hidden encode line_within
 seen_of p args steps =

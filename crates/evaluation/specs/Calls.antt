@@ -15,7 +15,7 @@ use Rattle.core_tree.specs.Typing.{chosen_number}
 use Rattle.heap_arena.specs.Heap.{Value, default_of, class_at}
 use Rattle.evaluation.specs.declared.outcome.Outcome.{Outcome}
 use Rattle.evaluation.specs.declared.outcome.Outcome.TheVariants as outcome
-use Rattle.evaluation.specs.World.{World, Answer, Run, gives, ◌>>=◌, ◌>>◌}
+use Rattle.evaluation.specs.World.{Answer, Run, gives, ◌>>=◌, ◌>>◌}
 use Rattle.evaluation.specs.Objects.{trap, with_object, read_cell, write_cell, message_place}
 
 -- a loop: its condition, where it has one, what is executed after each turn, and its body
@@ -31,7 +31,7 @@ pub record Parts : Type 0 where
   -- a further turn of a loop
   pub loop : Loop → Run
 
--- a run has at most so many live calls
+-- a run has at most that many live calls
 abbrev pub most_live : ℕ
 most_live = 65_536
 
@@ -55,8 +55,8 @@ leave end this locals a = record a {
   world = record a.world { this = this; locals = locals; live = a.world.live - 1 };
 }
 
--- a body with its own `this` and locals: the arguments first, then defaults. One call more is live in it, and where that
--- would be too many, StackOverflowError is thrown in the caller
+-- a body with its own `this` and locals: the arguments first, then defaults. One call more is live in it, and where
+-- that would be too many, StackOverflowError is thrown in the caller
 abbrev pub called : Program → (Outcome → Outcome) → Option ℕ → List Value → List Ty → Run → Run
 called p end this arguments locals body w =
     if nat_lt w.live most_live
@@ -69,7 +69,7 @@ module _ (p : Program) (part : Parts) where
   block [] = gives outcome.Normal
   block (s ∷ ss) = part.stmt s >> block ss
 
-  -- arguments from left to right, behind those that are there (JLS 15.7.4)
+  -- arguments from left to right, after those that are there (JLS 15.7.4)
   abbrev pub arguments : List Expr → List Value → (List Value → Run) → Run
   arguments [] got go = go got
   arguments (e ∷ es) got go = part.expr e >>= (λ v. arguments es (got ++ v ∷ []) go)

@@ -25,7 +25,7 @@ use Rattle.evaluation.specs.Evaluate.{choose, expr_node}
 
 -- ---- printing
 
--- the bytes of a text in UTF-8, and a line feed behind them where a line ends
+-- the bytes of a text in UTF-8, and a line feed after them where a line ends
 abbrev pub printed : Bool → List ℕ → List ℕ
 printed line t = encode_utf8_all t ++ (if line then 10 ∷ [] else [])
 

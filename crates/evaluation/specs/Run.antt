@@ -46,7 +46,7 @@ run_main p args w =
     else if not (nat_le (cell_count w.now) most_cells) then gives (outcome.Full what.Cells) w
     else option_map_or (λ main. block p (meaning p w.fuel) main.body w) (slice_get p.methods p.main) (gives outcome.Stuck w)
 
--- the run of a program with these arguments, so many steps, and these answers to come
+-- the run of a program with these arguments, that many steps, and these answers to come
 abbrev pub run : Program → List (List ℕ) → ℕ → List Entry → Answer
 run p args steps journal =
     option_map_or (λ main. run_main p args (first_world main args steps journal)) (slice_get p.methods p.main)

@@ -1,8 +1,8 @@
 use core_tree::What;
 use heap_arena::Cell;
 
-/// How a part of a program ends (JLS 14.1, 15.6). A reference is the position of its object. `Spent`, `Full` and `Stuck`
-/// end the run: no `catch` and no `finally` sees them.
+/// How a part of a program ends (JLS 14.1, 15.6). A reference is the position of its object. `Spent`, `Full` and
+/// `Stuck` end the run: no `catch` and no `finally` sees them.
 #[derive(Drop)]
 pub enum Outcome {
     /// An expression has this value. A call of a method without a result has the value null, which no node reads.

@@ -1,6 +1,6 @@
 -- The clauses of the gates, one gate after another: how many they are, and which variables they name.
-use Rattle.std.proofs.Common.{◌≡◌, ◌<◌, ◌≤◌, ◌+◌, ◌*◌, ℕ, zero, suc, Bool, true, false, ℤ, List, [], ◌∷◌, ◌++◌, length, get_or, take, refl, sym, ap, ◌∙◌, arith, subst, append_assoc, add-zero, inl, inr, length-append}
-use Rattle.std.specs.Prelude.{unsigned_abs, pos, negsuc}
+use Rattle.std.proofs.Common.{◌≡◌, ◌<◌, ◌≤◌, ◌+◌, ◌*◌, ℕ, suc, true, false, ℤ, List, [], ◌∷◌, ◌++◌, length, get_or, take, sym, ap, ◌∙◌, arith, subst, append_assoc, add-zero, inl, inr, length-append}
+use Rattle.std.specs.Prelude.{unsigned_abs}
 use Rattle.std.specs.List.{All}
 use Rattle.std.proofs.lemmas.List.{append-nil, take_more, length-take-le}
 use Rattle.std.proofs.lemmas.List.Elements.{All-append, All-nil, All-from_recursion}
@@ -37,17 +37,8 @@ clauses-more net k d h =
     let e : 0 + length (take k net) ≡ k = omega (arith, length-take-le k net within) in
     ap (clauses_from 0) (take_more net k d h) ∙ clauses-push 0 (take k net) (get_or net k d) ∙ ap (λ p. clauses_from 0 (take k net) ++ gate_clauses (record { place = p }) (get_or net k d)) e
 
-operator-few : (operator : Operator) (n x y : Node) → length (operator_clauses operator n x y) ≤ 4
-operator-few And n x y = omega arith
-operator-few Or n x y = omega arith
-operator-few Xor n x y = omega arith
-
 gate-few : (n : Node) (g : Gate) → length (gate_clauses n g) ≤ 4
-gate-few n (Constant true) = omega arith
-gate-few n (Constant false) = omega arith
-gate-few n Input = omega arith
-gate-few n (Not x) = omega arith
-gate-few n (Binary operator x y) = operator-few operator n x y
+gate-few n g = grind arith
 
 pub clauses-few : (place : ℕ) (gates : List Gate) → length (clauses_from place gates) ≤ 4 * length gates
 clauses-few place [] = omega arith

@@ -1,7 +1,10 @@
 -- How nets continue and grow.
-use Rattle.std.proofs.Common.{◌≡◌, ◌<◌, ◌≤◌, ◌+◌, ℕ, Bool, List, [], ◌∷◌, ◌++◌, length, refl, sym, ap, ◌∙◌, arith, subst, append_assoc, length-append, not, Result, Ok, Err, IfOk, OnOk, OnErr}
-use Rattle.std.proofs.lemmas.List.{append-nil}
-use Rattle.gate_net.specs.Net.{applied, Always, one_if_input, inputs_of, nodes_of, node_value, IsNode, Continues, KeepsValues, Grows}
+use Rattle.std.proofs.Common.{◌≡◌, ◌<◌, ◌≤◌, ◌+◌, ◌*◌, ℕ, Bool, List, [], ◌∷◌, ◌++◌, length, sym, ap, ◌∙◌, arith, append_assoc, length-append, not, Result, Ok, Err, IfOk, OnOk, OnErr}
+use Rattle.std.specs.List.{All}
+use Rattle.std.proofs.lemmas.List.{append-nil, length_push}
+use Rattle.std.proofs.lemmas.List.Elements.{All-push, All-same, All-weaker}
+use Rattle.std.proofs.lemmas.Nat.{mul-le}
+use Rattle.gate_net.specs.Net.{applied, Always, one_if_input, inputs_of, node_value, IsNode, Continues, KeepsValues, Grows}
 use Rattle.gate_net.proofs.Values.{inputs_of-append, node_value-kept, newest_is, not-value, binary-value}
 use Rattle.gate_net.specs.declared.node.Node.{Node}
 use Rattle.gate_net.specs.declared.gate.Operator.{Operator}
@@ -18,12 +21,9 @@ continues-then first second third f g = record {
   gates = g.gates ∙ ap (λ x. x ++ g.added) f.gates ∙ append_assoc first f.added g.added;
 }
 
-pub continues-nodes : (net after : List Gate) → Continues net after → length net ≤ length after
-continues-nodes net after f = omega (arith, ap length f.gates, length-append net f.added)
-
 -- a node stays one, and keeps its value
 pub stays : (net after : List Gate) (n : Node) → Continues net after → IsNode net n → IsNode after n
-stays net after n f h = omega (arith, continues-nodes net after f)
+stays net after n f h = omega (arith, ap length f.gates, length-append net f.added)
 
 pub keeps : (net after : List Gate) → Continues net after → KeepsValues net after
 keeps net after f = λ n h inputs. ap (λ x. node_value x inputs n) f.gates ∙ node_value-kept net f.added inputs n h
@@ -44,24 +44,10 @@ grows-push net after g e none =
       inputs = omega (arith, ap inputs_of e, inputs_of-append net (g ∷ []));
     }
 
-pub grows-then : (most more : ℕ) (first second third : List Gate) → Grows most first second → Grows more second third
-    → Grows (most + more) first third
-grows-then most more first second third f g =
-    let h = continues-then first second third f.begins g.begins in
-    record { begins = h; kept = keeps first third h; at_least = omega (arith, f.at_least, g.at_least); few = omega (arith, f.few, g.few); inputs = g.inputs ∙ f.inputs }
-
-pub grows-within : (most more : ℕ) (net after : List Gate) → most ≤ more → Grows most net after → Grows more net after
-grows-within most more net after h f = record { begins = f.begins; kept = f.kept; at_least = f.at_least; few = omega (arith, f.few); inputs = f.inputs }
-
 -- what always holds in a net always holds in a net that continues it
 pub always-on : (net after : List Gate) (fact : (Node → Bool) → Type 0) → Continues net after → Always net fact
     → Always after fact
 always-on net after fact f h = λ later g inputs. h later (continues-then net after later f g) inputs
-
--- what always holds, holds now
-pub always-now : (net : List Gate) (fact : (Node → Bool) → Type 0) → Always net fact → (inputs : List Bool)
-    → fact (node_value net inputs)
-always-now net fact h inputs = h net (continues-same net net refl) inputs
 
 -- what is true of one, two or three nodes' values in a net always is
 pub always-one : (net : List Gate) (n : Node) (x : Bool) → IsNode net n
@@ -108,4 +94,29 @@ binary-result operator (Err x) net after a b e place h k = tt
 
 pub grows_chain : (most more sum : ℕ) (first second third : List Gate) → Grows most first second
     → Grows more second third → most + more ≤ sum → Grows sum first third
-grows_chain most more sum first second third f g h = grows-within (most + more) sum first third h (grows-then most more first second third f g)
+grows_chain most more sum first second third f g h =
+    let both = continues-then first second third f.begins g.begins in
+    record { begins = both; kept = keeps first third both; at_least = omega (arith, f.at_least, g.at_least); few = omega (arith, f.few, g.few); inputs = g.inputs ∙ f.inputs }
+
+-- one more node, where the net has grown meanwhile
+pub nodes-push : (net after : List Gate) (done pushed : List Node) (n : Node) → pushed ≡ done ++ n ∷ []
+    → Continues net after → All (IsNode net) done → IsNode after n → All (IsNode after) pushed
+nodes-push net after done pushed n e f all h =
+    All-same (IsNode after) pushed (done ++ n ∷ []) e (All-push (IsNode after) done n (All-weaker (IsNode net) (IsNode after) (λ m. stays net after m f) done all) h)
+
+pub size-push : {X : Type 0} (done pushed : List X) (n : X) (i : ℕ) → pushed ≡ done ++ n ∷ [] → length done ≡ i
+    → length pushed ≡ i + 1
+size-push done pushed n i e size = ap length e ∙ length_push done n ∙ ap (λ k. k + 1) size
+
+-- turns of a loop
+pub turn_more : (w i : ℕ) → w * (i + 1) ≡ w * i + w
+turn_more w i = grind arith
+
+pub turn : (w i n : ℕ) → i < n → w * i + w ≤ w * n
+turn w i n h =
+    let f : w * (i + 1) ≤ w * n = mul-le w (i + 1) w n (omega arith) (omega arith) in
+    omega (arith, turn_more w i)
+
+pub if-ok : {E V : Type 0} (r : Result V E) {P Q : V → Type 0} → ((v : V) → P v → Q v) → IfOk r P → IfOk r Q
+if-ok (Ok v) f h = f v h
+if-ok (Err x) f h = tt

@@ -1,22 +1,19 @@
 -- What the clauses of a net mean: exactly the assignments that extend values of the inputs satisfy them.
-use Rattle.std.proofs.Common.{◌≡◌, ◌<◌, ◌≤◌, ◌+◌, ◌*◌, ℕ, zero, suc, Bool, true, false, not, ◌&&◌, ◌||◌, ◌↔◌, ℤ, List, [], ◌∷◌, ◌++◌, length, get_or, take, drop, refl, sym, ap, ◌∙◌, arith, subst, add-zero, inl, inr}
-use Rattle.std.specs.Prelude.{slice_index_or}
+use Rattle.std.proofs.Common.{◌≡◌, ◌<◌, ◌≤◌, ◌+◌, ◌*◌, ℕ, zero, suc, Bool, true, false, not, ◌&&◌, ◌||◌, ℤ, List, [], ◌∷◌, ◌++◌, length, get_or, take, drop, refl, sym, ap, ◌∙◌, arith, subst, add-zero, inl, inr}
 use Rattle.std.specs.Bool.{beq}
 use Rattle.std.specs.List.{All, list_any, list_all}
-use Rattle.std.proofs.lemmas.List.{append-nil, take_more, length-take-le, take-append-drop, get_or_push, get_or_append_left, ext_get_or, take_all, length_push}
+use Rattle.std.proofs.lemmas.List.{length-take-le, take-append-drop, get_or_push, ext_get_or, take_all, length_push}
 use Rattle.std.proofs.lemmas.List.Folds.{list_all-append}
 use Rattle.std.proofs.lemmas.List.Sums.{AllPass-from_list_all, list_all-from_AllPass}
 use Rattle.std.proofs.lemmas.Bool.{and_parts, and_from, cases_lt}
 use Rattle.clause_form.specs.Clauses.{value, listed, Holds, NamesWithin}
-use Rattle.gate_net.specs.Net.{applied, at, gate_value, one_if_input, values_of, inputs_of, node_value, IsNode, IsNet, Refers}
-use Rattle.gate_net.specs.Encoding.{clause_of_one, with_input, operator_clauses, gate_clauses, clauses_from, given, given_from, Agrees, Extends, StandsFor}
+use Rattle.gate_net.specs.Net.{applied, gate_value, one_if_input, values_of, inputs_of, node_value, IsNode, IsNet, Refers}
+use Rattle.gate_net.specs.Encoding.{clause_of_one, with_input, gate_clauses, clauses_from, given, given_from, Agrees, Extends, StandsFor}
 use Rattle.std.proofs.lemmas.List.Elements.{All-push}
 use Rattle.gate_net.proofs.GateClauses.{clauses-few, clauses-names, names-one}
-use Rattle.gate_net.proofs.Values.{length-values_of, length-values_front, node_value-kept, values-more, inputs_of-more, inputs_of-front}
+use Rattle.gate_net.proofs.Values.{length-values_front, node_value-kept, values-more}
 use Rattle.gate_net.specs.declared.node.Node.{Node}
-use Rattle.gate_net.specs.declared.literal.Literal.TheVariants.{Is, IsNot}
-use Rattle.gate_net.specs.declared.gate.Operator.{Operator}
-use Rattle.gate_net.specs.declared.gate.Operator.TheVariants.{And, Or, Xor}
+use Rattle.gate_net.specs.declared.literal.Literal.TheVariants.{Is}
 use Rattle.gate_net.specs.declared.gate.Gate.{Gate}
 use Rattle.gate_net.specs.declared.gate.Gate.TheVariants.{Constant, Input, Not, Binary}
 
@@ -31,71 +28,9 @@ consistent a place Input = true
 consistent a place (Not x) = beq (a (suc place)) (not (a (suc x.place)))
 consistent a place (Binary operator x y) = beq (a (suc place)) (applied operator (a (suc x.place)) (a (suc y.place)))
 
-constant-true : (v : Bool) → ((v || false) && true) ≡ beq v true
-constant-true true = refl
-constant-true false = refl
-
-constant-false : (v : Bool) → ((not v || false) && true) ≡ beq v false
-constant-false true = refl
-constant-false false = refl
-
-not-clauses : (v x : Bool) → ((v || (x || false)) && ((not v || (not x || false)) && true)) ≡ beq v (not x)
-not-clauses true true = refl
-not-clauses true false = refl
-not-clauses false true = refl
-not-clauses false false = refl
-
-and-clauses : (v x y : Bool)
-    → ((not v || (x || false)) && ((not v || (y || false)) && ((v || (not x || (not y || false))) && true)))
-    ≡ beq v (x && y)
-and-clauses true true true = refl
-and-clauses true true false = refl
-and-clauses true false true = refl
-and-clauses true false false = refl
-and-clauses false true true = refl
-and-clauses false true false = refl
-and-clauses false false true = refl
-and-clauses false false false = refl
-
-or-clauses : (v x y : Bool)
-    → ((v || (not x || false)) && ((v || (not y || false)) && ((not v || (x || (y || false))) && true)))
-    ≡ beq v (x || y)
-or-clauses true true true = refl
-or-clauses true true false = refl
-or-clauses true false true = refl
-or-clauses true false false = refl
-or-clauses false true true = refl
-or-clauses false true false = refl
-or-clauses false false true = refl
-or-clauses false false false = refl
-
-xor-clauses : (v x y : Bool)
-    → ((not v || (x || (y || false)))
-    && ((not v || (not x || (not y || false)))
-    && ((v || (not x || (y || false))) && ((v || (x || (not y || false))) && true)))) ≡ beq v (not (beq x y))
-xor-clauses true true true = refl
-xor-clauses true true false = refl
-xor-clauses true false true = refl
-xor-clauses true false false = refl
-xor-clauses false true true = refl
-xor-clauses false true false = refl
-xor-clauses false false true = refl
-xor-clauses false false false = refl
-
-operator-consistent : (a : ℕ → Bool) (operator : Operator) (n x y : Node)
-    → list_all (is_true a) (operator_clauses operator n x y)
-    ≡ beq (a (suc n.place)) (applied operator (a (suc x.place)) (a (suc y.place)))
-operator-consistent a And n x y = and-clauses (a (suc n.place)) (a (suc x.place)) (a (suc y.place))
-operator-consistent a Or n x y = or-clauses (a (suc n.place)) (a (suc x.place)) (a (suc y.place))
-operator-consistent a Xor n x y = xor-clauses (a (suc n.place)) (a (suc x.place)) (a (suc y.place))
-
 gate-consistent : (a : ℕ → Bool) (n : Node) (g : Gate)
     → list_all (is_true a) (gate_clauses n g) ≡ consistent a n.place g
-gate-consistent a n (Constant true) = constant-true (a (suc n.place))
-gate-consistent a n (Constant false) = constant-false (a (suc n.place))
-gate-consistent a n Input = refl
-gate-consistent a n (Not x) = not-clauses (a (suc n.place)) (a (suc x.place))
-gate-consistent a n (Binary operator x y) = operator-consistent a operator n x y
+gate-consistent a n g = grind arith
 
 each-next : (a : ℕ → Bool) (place : ℕ) (g : Gate) (gates : List Gate) → consistent a place g ≡ true
     → ((k : ℕ) (d : Gate) → k < length gates → consistent a (suc place + k) (get_or gates k d) ≡ true)
@@ -133,11 +68,7 @@ all-consistent a place (g ∷ gates) h =
 operands : (inputs : List Bool) (next k : ℕ) (vs ws : List Bool) (g : Gate) → Refers k g
     → ((j : ℕ) → j < k → get_or vs j false ≡ get_or ws j false)
     → gate_value inputs next vs g ≡ gate_value inputs next ws g
-operands inputs next k vs ws (Constant b) r same = refl
-operands inputs next k vs ws Input r same = refl
-operands inputs next k vs ws (Not x) r same = ap not (same x.place r)
-operands inputs next k vs ws (Binary operator x y) r same =
-    ap (λ v. applied operator v (at vs y)) (same x.place r.0) ∙ ap (λ v. applied operator (at ws x) v) (same y.place r.1)
+operands inputs next k vs ws g r same = grind arith
 
 front-value : (inputs : List Bool) (net : List Gate) (k j : ℕ) → k ≤ length net → j < k
     → get_or (values_of inputs (take k net)) j false ≡ get_or (values_of inputs net) j false
@@ -164,10 +95,7 @@ value_at inputs net k d h r =
 
 length-with_input : (g : Gate) (b : Bool) (rest : List Bool)
     → length (with_input g b rest) ≡ one_if_input g + length rest
-length-with_input (Constant v) b rest = omega arith
-length-with_input Input b rest = omega arith
-length-with_input (Not x) b rest = omega arith
-length-with_input (Binary operator x y) b rest = omega arith
+length-with_input g b rest = grind arith
 
 length-given : (a : ℕ → Bool) (place : ℕ) (net : List Gate) → length (given_from a place net) ≡ inputs_of net
 length-given a place [] = refl
@@ -176,10 +104,7 @@ length-given a place (g ∷ net) =
 
 get_after : (g : Gate) (b : Bool) (rest : List Bool) (n : ℕ)
     → get_or (with_input g b rest) (one_if_input g + n) false ≡ get_or rest n false
-get_after (Constant v) b rest n = ap (λ i. get_or rest i false) (omega arith)
-get_after Input b rest n = let e : 1 + n ≡ suc n = omega arith in ap (λ i. get_or (b ∷ rest) i false) e
-get_after (Not x) b rest n = ap (λ i. get_or rest i false) (omega arith)
-get_after (Binary operator x y) b rest n = ap (λ i. get_or rest i false) (omega arith)
+get_after g b rest n = grind arith
 
 in_front : (g : Gate) (b : Bool) (rest : List Bool) → g ≡ Input → get_or (with_input g b rest) 0 false ≡ b
 in_front g b rest e = rw e refl
@@ -216,40 +141,22 @@ input_place (Input ∷ net) (suc i) h =
     (suc p.0, omega (arith, p.1), p.2, omega (arith, p.3))
 
 beq-same : (x y : Bool) → beq x y ≡ true → x ≡ y
-beq-same true true h = refl
-beq-same false false h = refl
-beq-same true false h = sym h
-beq-same false true h = h
+beq-same x y h = grind arith
 
 same-beq : (x y : Bool) → x ≡ y → beq x y ≡ true
-same-beq true true h = refl
-same-beq false false h = refl
-same-beq true false h = sym h
-same-beq false true h = h
+same-beq x y h = grind arith
 
 -- a gate whose clauses are true has the value that its operands' variables decide
 gate-holds : (a : ℕ → Bool) (inputs : List Bool) (next k : ℕ) (vs : List Bool) (g : Gate) → Refers k g
     → ((j : ℕ) → j < k → a (suc j) ≡ get_or vs j false) → (g ≡ Input → a (suc k) ≡ get_or inputs next false)
     → consistent a k g ≡ true → a (suc k) ≡ gate_value inputs next vs g
-gate-holds a inputs next k vs (Constant b) r same input h = beq-same (a (suc k)) b h
-gate-holds a inputs next k vs Input r same input h = input refl
-gate-holds a inputs next k vs (Not x) r same input h = beq-same (a (suc k)) _ h ∙ ap not (same x.place r)
-gate-holds a inputs next k vs (Binary operator x y) r same input h =
-    beq-same (a (suc k)) _ h
-    ∙ ap (λ v. applied operator v (a (suc y.place))) (same x.place r.0)
-    ∙ ap (λ v. applied operator (at vs x) v) (same y.place r.1)
+gate-holds a inputs next k vs g r same input h = grind arith
 
 -- and the other way round
 holds-gate : (a : ℕ → Bool) (inputs : List Bool) (next k : ℕ) (vs : List Bool) (g : Gate) → Refers k g
     → ((j : ℕ) → j < k → a (suc j) ≡ get_or vs j false) → a (suc k) ≡ gate_value inputs next vs g
     → consistent a k g ≡ true
-holds-gate a inputs next k vs (Constant b) r same h = same-beq (a (suc k)) b h
-holds-gate a inputs next k vs Input r same h = refl
-holds-gate a inputs next k vs (Not x) r same h = same-beq (a (suc k)) _ (h ∙ ap not (sym (same x.place r)))
-holds-gate a inputs next k vs (Binary operator x y) r same h =
-    same-beq (a (suc k)) _ (h
-    ∙ ap (λ v. applied operator v (at vs y)) (sym (same x.place r.0))
-    ∙ ap (λ v. applied operator (a (suc x.place)) v) (sym (same y.place r.1)))
+holds-gate a inputs next k vs g r same h = grind arith
 
 no_gate : Gate
 no_gate = Constant false
@@ -312,8 +219,7 @@ all-named net root is h =
     (names-one (length net) (Is root) h)
 
 one-true : (v : Bool) → ((v || false) && true) ≡ v
-one-true true = refl
-one-true false = refl
+one-true v = grind arith
 
 pub extends_from_holds : (net : List Gate) (root : Node) (a : ℕ → Bool) → IsNet net → IsNode net root
     → Holds (all_clauses net root) a → Extends net root a

@@ -1,10 +1,9 @@
 -- The values of a net that grows.
-use Rattle.std.proofs.Common.{◌≡◌, ◌≢◌, ◌<◌, ◌≤◌, ◌+◌, ◌^◌, ℕ, zero, suc, Bool, true, false, not, List, [], ◌∷◌, ◌++◌, length, get_or, refl, sym, ap, ◌∙◌, arith, subst, add-zero, inl, inr, Result, Ok, Err, IfOk, OnOk, take, drop}
-use Rattle.std.proofs.lemmas.List.{get_or_append_left, get_or_push, length_push, append-nil, take_more, take-append-drop, length-take-le}
+use Rattle.std.proofs.Common.{◌≡◌, ◌<◌, ◌≤◌, ◌+◌, ℕ, Bool, true, false, not, List, [], ◌∷◌, ◌++◌, length, get_or, refl, sym, ap, ◌∙◌, arith, add-zero, Result, Ok, Err, IfOk, OnOk, take, drop}
+use Rattle.std.proofs.lemmas.List.{get_or_append_left, get_or_push, length_push, take_more, take-append-drop, length-take-le}
 use Rattle.std.specs.Prelude.{slice_index_or}
-use Rattle.std.proofs.lemmas.Bool.{cases_lt}
 use mir.Val.{bool_byte}
-use Rattle.gate_net.specs.Net.{applied, differ, at, gate_value, one_if_input, values_after, values_of, inputs_of, node_value, IsNode, Refers, IsNet, Grows}
+use Rattle.gate_net.specs.Net.{applied, at, gate_value, one_if_input, values_after, values_of, inputs_of, node_value, IsNode, IsNet}
 use Rattle.gate_net.specs.declared.node.Node.{Node}
 use Rattle.gate_net.specs.declared.gate.Operator.{Operator}
 use Rattle.gate_net.specs.declared.gate.Gate.{Gate}
@@ -84,28 +83,12 @@ pub newest_is : (net after : List Gate) (g : Gate) (n : Node) → after ≡ net 
     → IsNode after n
 newest_is net after g n e place = omega (arith, ap length e, length_push net g)
 
-pub net-push : (net : List Gate) (g : Gate) → IsNet net → length net < 2 ^ 28 → Refers (length net) g
-    → IsNet (net ++ g ∷ [])
-net-push net g is room refers = record {
-  others = is.others ++ g ∷ [];
-  constants = ap (λ x. x ++ g ∷ []) is.constants;
-  few = omega (arith, length_push net g);
-  earlier = λ k d h. elim (cases_lt k (length net)) [
-    | inl below ↦ subst (Refers k) (sym (get_or_append_left net (g ∷ []) d k below)) (is.earlier k d below)
-    | inr past ↦
-        let here : length net ≡ k = omega (arith, length_push net g) in
-        subst (Refers k) (sym (get_or_push net g d k here)) (subst (λ p. Refers p g) here refers)
-  ];
-}
-
 pub constant_place : (value : Bool) (n : Node) (inputs : List Bool) → n.place ≡ bool_byte value
     → node_value (Constant false ∷ Constant true ∷ []) inputs n ≡ value
-constant_place true n inputs e = ap (λ p. get_or (false ∷ true ∷ []) p false) e
-constant_place false n inputs e = ap (λ p. get_or (false ∷ true ∷ []) p false) e
+constant_place value n inputs e = grind arith
 
 pub constant_within : (value : Bool) (n : Node) → n.place ≡ bool_byte value → n.place < 2
-constant_within true n e = omega arith
-constant_within false n e = omega arith
+constant_within value n e = grind arith
 
 -- the two constants keep their places
 pub constant-value : (net : List Gate) (value : Bool) (n : Node) → IsNet net → n.place ≡ bool_byte value

@@ -13,8 +13,8 @@ use std::alloc::Global;
 /// The most cells of a heap.
 const MOST_CELLS: u32 = 16_777_216;
 
-/// A store whose marks are whole copies of the heap. `read` and `write` take constant time, and `make` takes time for the
-/// cells of its object alone, amortized; `mark` and `undo` go over the whole heap. `write` takes no memory.
+/// A store whose marks are whole copies of the heap. `read` and `write` take constant time, and `make` takes time for
+/// the cells of its object alone, amortized; `mark` and `undo` go over the whole heap. `write` takes no memory.
 #[derive(Drop)]
 pub struct CopyStore {
     heap: ObjectList,

@@ -65,8 +65,8 @@ pub fn change_and_keep<S: Store>(
     outcome
 }
 
-/// Makes a change with the number 1 over a mark; over further marks makes and undoes one with 2, and makes and keeps one
-/// with 3. Then it keeps the first mark's changes or undoes them. The marks are as before in every case.
+/// Makes a change with the number 1 over a mark; over further marks makes and undoes one with 2, and makes and keeps
+/// one with 3. Then it keeps the first mark's changes or undoes them. The marks are as before in every case.
 pub fn nest<S: Store>(
     store: &mut S,
     o: S::Obj,

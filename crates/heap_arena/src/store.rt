@@ -111,8 +111,9 @@ pub trait Store {
         requires marked { (state self.now).marks ≢ [] }
         ensures { result ≡ length (last_mark (state self.now).marks) };
 
-    /// Each mark begins the next newer one, and the newest begins the heap of now: an object keeps its kind and its number
-    /// of cells. Each reference in one of these heaps is to an object of that heap, and each has at most 16,777,216 cells.
+    /// Each mark begins the next newer one, and the newest begins the heap of now: an object keeps its kind and its
+    /// number of cells. Each reference in one of these heaps is to an object of that heap, and each has at most
+    /// 16,777,216 cells.
     ghost sound: { (s : Self) → IsSound (state s).now (state s).marks };
 
     /// Two objects that are there have two positions.

@@ -1,6 +1,7 @@
 -- The array of the arguments while they are put into it.
 use Rattle.std.proofs.Common.{◌≡◌, ◌<◌, ◌≤◌, nat_le, IsTrue, subst, ℕ, zero, suc, true, List, [], ◌∷◌, length, map, replicate, Some, refl, sym, ap, ◌∙◌, arith, slice_get, slice_set}
 use Rattle.std.proofs.lemmas.Bool.{leb-true}
+use Rattle.std.specs.Cmp.{first_so, second_so}
 use Rattle.core_tree.specs.Text.{code_units}
 use Rattle.core_tree.specs.declared.ty.Ty.{Ty}
 use Rattle.core_tree.specs.declared.ty.Ty as shape
@@ -11,7 +12,7 @@ use Rattle.heap_arena.specs.Heap.{Heap, Value, default_of, made, written}
 use Rattle.evaluation.specs.Values.{most_units}
 use Rattle.evaluation.specs.Objects.{has_cell}
 use Rattle.evaluation.specs.Run.{arguments_heap, has_short_arguments}
-use Rattle.interpreter.proofs.Leaves.{inj, and_l, and_r}
+use Rattle.interpreter.proofs.Leaves.{inj}
 
 -- the first k cells have their texts, and the others have null
 pub cells : List (List ℕ) → ℕ → List Value
@@ -67,5 +68,5 @@ further texts k t is = ap (λ (vs : List Value). record { kind = kind.Array ty.T
 pub short_at : (texts : List (List ℕ)) (k : ℕ) (t : List ℕ) → IsTrue (has_short_arguments texts)
     → slice_get texts k ≡ Some t → code_units t ≤ most_units
 short_at [] k t short is = cc
-short_at (x ∷ xs) zero t short is = subst (λ text. code_units text ≤ most_units) (inj x t is) (leb-true (code_units x) most_units (and_l (nat_le (code_units x) most_units) (has_short_arguments xs) short))
-short_at (x ∷ xs) (suc k) t short is = short_at xs k t (and_r (nat_le (code_units x) most_units) (has_short_arguments xs) short) is
+short_at (x ∷ xs) zero t short is = subst (λ text. code_units text ≤ most_units) (inj x t is) (leb-true (code_units x) most_units (first_so (nat_le (code_units x) most_units) (has_short_arguments xs) short))
+short_at (x ∷ xs) (suc k) t short is = short_at xs k t (second_so (nat_le (code_units x) most_units) (has_short_arguments xs) short) is

@@ -1,5 +1,5 @@
 -- What reads, writes and prints do, by cases on what is there.
-use Rattle.std.proofs.Common.{◌≡◌, ◌&&◌, IsTrue, ◌<◌, ◌≤◌, ℕ, Bool, true, false, List, ◌∷◌, length, Option, Some, None, refl, sym, ap, ◌∙◌, get_or, option_map, slice_set}
+use Rattle.std.proofs.Common.{◌≡◌, ◌&&◌, ◌<◌, ◌≤◌, ℕ, Bool, List, ◌∷◌, length, Option, Some, None, refl, sym, ap, ◌∙◌, get_or, option_map, slice_set}
 use Rattle.std.specs.Option.{option_map_or}
 use Rattle.std.proofs.lemmas.Bool.{lt-ltb, le-ltb}
 use Rattle.std.specs.List.{between}
@@ -16,14 +16,6 @@ use Rattle.interpreter.specs.Functions.{place_value}
 -- what Some holds
 pub inj : {A : Type 0} (a b : A) → Some a ≡ Some b → a ≡ b
 inj a b e = cc
-
-pub and_l : (a b : Bool) → IsTrue (a && b) → IsTrue a
-and_l true b both = refl
-and_l false b both = both
-
-pub and_r : (a b : Bool) → IsTrue (a && b) → IsTrue b
-and_r true b both = both
-and_r false b both = cc
 
 pub reads : (place : Place) (w : World) → read_place place w ≡ found (place_value w.locals w.now place) w
 reads (location.Local at) w = refl

@@ -1,4 +1,5 @@
--- What constructors and field initialisers do, one after the other; and that a thrown exception passes by what wants a value.
+-- What constructors and field initialisers do, one after the other; and that a thrown exception passes by what wants a
+-- value.
 use Rattle.std.proofs.Common.{◌≡◌, ◌+◌, ℕ, zero, suc, Bool, true, false, nat_le, List, [], ◌∷◌, drop, length, Option, Some, None, option_map, refl, sym, ap, ◌∙◌, slice_get}
 use Rattle.std.specs.Option.{option_map_or}
 use Rattle.core_tree.specs.declared.built_in.BuiltIn.{BuiltIn}

@@ -16,7 +16,7 @@ use Rattle.relation_bounds.specs.declared.journal.Entry.{Entry}
 use Rattle.evaluation.specs.declared.outcome.Outcome.{Outcome}
 use Rattle.evaluation.specs.declared.outcome.Outcome.TheVariants as outcome
 use Rattle.evaluation.specs.declared.outcome.Outcome.TheVariants.{Normal}
-use Rattle.evaluation.specs.World.{World, Answer, gives}
+use Rattle.evaluation.specs.World.{gives}
 use Rattle.evaluation.specs.Calls.{block}
 use Rattle.evaluation.specs.Execute.{meaning}
 use Rattle.evaluation.specs.Run.{arguments_heap, ending_of, first_world, has_short_arguments, run, run_main, Ending}

@@ -75,7 +75,8 @@ pub record Leads (m : Point) (x : Focus) (before : SinkState) (n : Point) (y : F
   pub within : n.taken ≤ n.setting.budget
 
 -- each run that comes by this point, with the budget as its steps, ends with this outcome and in the heap of now, it
--- has the steps that weren't taken and all answers left, and its output, which is that of a run with just the steps taken, was put
+-- has the steps that weren't taken and all answers left, and its output, which is that of a run with just the steps
+-- taken, was put
 pub record Ends (m : Point) (x : Focus) (before : SinkState) (n : Point) (now : SinkState) (o : Outcome) : Type 0 where
   pub within : n.taken ≤ m.setting.budget
   pub setting : n.setting ≡ m.setting

@@ -2,10 +2,9 @@
 use Rattle.std.specs.Prelude.{◌≡◌, ℕ, List, Option}
 use Rattle.core_tree.specs.declared.ty.Ty.{Ty}
 use Rattle.core_tree.specs.declared.program.Program.{Program}
-use Rattle.heap_arena.specs.Heap.{Heap, Value}
+use Rattle.heap_arena.specs.Heap.{Heap, Value, field_types_of}
 use Rattle.relation_bounds.specs.declared.journal.Entry.{Entry}
 use Rattle.evaluation.specs.World.{World}
-use Rattle.evaluation.specs.Objects.{field_types}
 use Rattle.interpreter.specs.declared.frame.Frame.{Frame}
 use Rattle.interpreter.specs.declared.running.Running.{Running}
 use Rattle.heap_arena.specs.State.{StoreState}
@@ -47,4 +46,4 @@ world m f J = record { this = m.this; locals = m.locals; now = m.now; live = m.l
 
 -- the fields of the store's classes are the program's
 abbrev pub HasFields : Point → Type 0
-HasFields m = m.setting.fields ≡ field_types m.setting.program
+HasFields m = m.setting.fields ≡ field_types_of m.setting.program

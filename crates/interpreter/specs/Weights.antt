@@ -54,10 +54,6 @@ focus_weight (focus.Construct k o args levels) = construct_weight levels
 focus_weight (focus.Print bytes) = answer_weight + 1
 focus_weight (focus.Answer o) = answer_weight
 
--- the weight of the frames, and of what the machine stands before
-abbrev pub weight_of : Point → Focus → ℕ
-weight_of m y = frames_weight (length m.setting.program.classes) m.frames + focus_weight y
-
 -- from m the machine leaves at most this weight more
 abbrev pub Weighs : ℕ → Point → Point → Focus → Type 0
 Weighs most m n y =

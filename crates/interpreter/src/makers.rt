@@ -249,7 +249,8 @@ impl<'p, S: Store + Drop> Running<'p, S> {
         ensures err { OnErr result (FailsIn S.state self.old self.new) }
     {
         self.push(Frame::Normal(NormalFrame::Fields(o, class, start.next, fields)))?;
-        self.value_of(start.value, ValueFrame::WriteCell(o, start.at))
+        self.push(Frame::Value(ValueFrame::WriteCell(o, start.at)))?;
+        Ok(Focus::Expr(start.value))
     }
 }
 
@@ -265,7 +266,7 @@ fn next_start(class: u32, from: usize, fields: &[Field]) -> Option<Start<'_>>
                 return Some(Start {
                     at,
                     next: at + 1,
-                    value,
+                    value: value.get(),
                 });
             }
         }

@@ -2,9 +2,9 @@
 
 ghost use Rattle.std.specs.Prelude.{◌≡◌, ℕ, IfOk, List, [], map};
 ghost use Rattle.core_tree.specs.declared.program.Method.{Method as MainMethod};
-ghost use Rattle.heap_arena.specs.Heap.{cell_at};
+ghost use Rattle.heap_arena.specs.Heap.{cell_at, field_types_of};
 ghost use Rattle.heap_arena.specs.State.{new_state, ChangesHeap};
-ghost use Rattle.evaluation.specs.Objects.{field_types, message_place};
+ghost use Rattle.evaluation.specs.Objects.{message_place};
 ghost use Rattle.evaluation.specs.Run.{ending_of, message_of, uncaught};
 ghost use Rattle.interpreter.specs.Machine.{is_refused, text_of, BeginsAs, EndsRun, IsBegun, IsFirst, IsMain, Tells, TellsEnd};
 
@@ -110,7 +110,7 @@ fn run_body<'p, S: Store + Drop, O: Sink>(
     steps: u64,
     sink: &mut O,
 ) -> Ended<S>
-    requires fields { (S.state store).field_types ≡ field_types program.now }
+    requires fields { (S.state store).field_types ≡ field_types_of program.now }
     ensures { (args : List (List ℕ)) (main : MainMethod) →
         IsMain program.entry.now main →
         IsBegun main args (S.state store).now beginning.entry →

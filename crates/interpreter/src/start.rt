@@ -1,13 +1,12 @@
 ghost use Rattle.std.specs.Prelude.{◌≡◌, ◌+◌};
 
 use core_tree::Expr;
-use sqlite_items::Boxed;
 
 /// A field initialiser, the place of its field, and the place after that.
 #[derive(Clone, Copy, Drop)]
 pub struct Start<'p> {
     pub at: usize,
     pub next: usize,
-    pub value: &'p Boxed<Expr>,
+    pub value: &'p Expr,
     ghost follows: { next ≡ at + 1 },
 }

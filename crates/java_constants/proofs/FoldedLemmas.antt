@@ -1,8 +1,8 @@
 -- What each kind of expression is as a part of a constant's initialiser, from what its parts are.
 use Rattle.std.proofs.Common.{◌≡◌, ◌∙◌, ℕ, Bool, List, sym, ap}
-use Rattle.java_syntax.specs.declared.name.Ident.{Ident}
-use Rattle.java_syntax.specs.declared.name.TypeTree.{TypeTree}
-use Rattle.java_syntax.specs.declared.name.BaseType.{BaseType}
+use Rattle.token_reading.specs.declared.name.Ident.{Ident}
+use Rattle.token_reading.specs.declared.name.TypeTree.{TypeTree}
+use Rattle.token_reading.specs.declared.name.BaseType.{BaseType}
 use Rattle.java_syntax.specs.declared.operator.UnaryOp.{UnaryOp}
 use Rattle.java_syntax.specs.declared.operator.BinaryOp.{BinaryOp}
 use Rattle.java_syntax.specs.declared.expression.Expr.{Expr}

@@ -1,2 +1,1 @@
 pub mod FoldedLemmas
-pub mod TextLemmas

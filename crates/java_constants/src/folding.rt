@@ -2,14 +2,16 @@
 
 ghost use Rattle.std.specs.Prelude.{◌≡◌, IfOk};
 ghost use Rattle.java_syntax.specs.declared.expression.Expr.TheOpen.{Expr-F};
+ghost use Rattle.java_exprs.specs.declared.folded.Folded.TheVariants as folded;
 ghost use Rattle.java_exprs.specs.Constants as constants;
 
 use crate::operators::{binary, conditional, paren, unary};
 use crate::texts::text;
 use java_exprs::literals::{GREATEST, int_of};
-use java_exprs::{Environment, Folded, Literal};
+use java_exprs::{Environment, Folded};
 use java_names::{FieldSymbol, Meaning, Scope};
 use java_syntax::{Expr, Ident};
+use primitive_operators::Scalar;
 use std::alloc::{AllocError, Global};
 
 // A number.
@@ -19,7 +21,7 @@ fn number(env: &Environment, scope: &Scope, at: u32, n: u64) -> Folded
     if n > GREATEST {
         return Folded::Unknown;
     }
-    Folded::Gives(Literal::Int(int_of(n)))
+    Folded::Gives(Scalar::Int(int_of(n)))
 }
 
 // A constant that was read, with its value; a text is shared.
@@ -27,9 +29,19 @@ fn read(env: &Environment, field: &FieldSymbol) -> Result<Folded, AllocError>
     ensures { IfOk result (λ it. it ≡ constants.field_folded env.now field.now) }
 {
     match env.constants.get(field.at) {
-        Some(Some(value)) => Ok(Folded::Gives(value.share()?)),
+        Some(Some(value)) => shared(value),
         Some(None) => Ok(Folded::Unknown),
         None => Ok(Folded::Other),
+    }
+}
+
+// The value once more; a text is shared.
+fn shared(value: &Scalar) -> Result<Folded, AllocError>
+    ensures { IfOk result (λ it. it ≡ folded.Gives value.now) }
+{
+    match value.share() {
+        Ok(value) => Ok(Folded::Gives(value)),
+        Err(_) => Err(AllocError),
     }
 }
 
@@ -57,12 +69,12 @@ fn field(env: &Environment, o: &Folded, f: &Ident) -> Result<Folded, AllocError>
     }
 }
 
-/// What an expression is as the initialiser of a constant, or as a part of one (JLS 15.29): its value, or why it has none.
-/// The names in it are those of `scope`, and its constants those that `env` has so far. Calls, casts and whatever else no
-/// initialiser has are not walked.
+/// What an expression is as the initialiser of a constant, or as a part of one (JLS 15.29): its value, or why it has
+/// none. The names in it are those of `scope`, and its constants those that `env` has so far. Calls, casts and whatever
+/// else no initialiser has are not walked.
 ///
 /// # Errors
-/// `AllocError` where there is no memory left, and for a literal of 2^31 characters or more.
+/// `AllocError` where memory runs out, and for a literal of 2^31 characters or more.
 #[tactic(auto, using(crate::proofs::FoldedLemmas::folds))]
 pub fn fold(alloc: Global, env: &Environment, scope: &Scope, e: &Expr) -> Result<Folded, AllocError>
     ensures { IfOk result (λ it. it ≡ constants.folded_of env.now scope.now e.now) }
@@ -70,8 +82,8 @@ pub fn fold(alloc: Global, env: &Environment, scope: &Scope, e: &Expr) -> Result
     match e {
         Expr::Number(at, n) => Ok(number(env, scope, *at, *n)),
         Expr::Text(_, t) => text(alloc, t.characters()),
-        Expr::Bool(_, b) => Ok(Folded::Gives(Literal::Bool(*b))),
-        Expr::Null(_) => Ok(Folded::Gives(Literal::Null)),
+        Expr::Bool(_, b) => Ok(Folded::Gives(Scalar::Bool(*b))),
+        Expr::Null(_) => Ok(Folded::Gives(Scalar::Null)),
         Expr::Name(x) => name(env, scope, x),
         Expr::Paren(_, e) => Ok(paren(fold(alloc, env, scope, e.get())?)),
         Expr::Field(o, f) => field(env, &fold(alloc, env, scope, o.get())?, f),

@@ -4,8 +4,9 @@ ghost use Rattle.std.specs.Prelude.{◌≡◌, [], ◌∷◌, IfOk};
 ghost use Rattle.java_exprs.specs.Operators as operators;
 
 use crate::values::{binary_value, unary_value};
-use java_exprs::{Folded, Literal};
+use java_exprs::Folded;
 use java_syntax::{BinaryOp, UnaryOp};
+use primitive_operators::Scalar;
 use std::alloc::{AllocError, Global};
 
 // Whether an initialiser may have this part.
@@ -45,8 +46,8 @@ fn choice(c: &Folded, a: Folded, b: Folded) -> Folded
     ensures { result ≡ operators.choice_folded c.now a b }
 {
     match c {
-        Folded::Gives(Literal::Bool(true)) => a,
-        Folded::Gives(Literal::Bool(false)) => b,
+        Folded::Gives(Scalar::Bool(true)) => a,
+        Folded::Gives(Scalar::Bool(false)) => b,
         Folded::Fails => Folded::Fails,
         _ => Folded::Unknown,
     }
@@ -70,11 +71,11 @@ fn strict(alloc: Global, op: BinaryOp, l: &Folded, r: &Folded) -> Result<Folded,
     }
 }
 
-/// An operator between two parts (JLS 15.17 to 15.24). A second operand that isn't evaluated must be a part of the allowed
-/// kinds, too.
+/// An operator between two parts (JLS 15.17 to 15.24). A second operand that isn't evaluated must be a part of the
+/// allowed kinds, too.
 ///
 /// # Errors
-/// `AllocError` where there is no memory left.
+/// `AllocError` where memory runs out.
 pub fn binary(alloc: Global, op: BinaryOp, l: Folded, r: Folded) -> Result<Folded, AllocError>
     ensures { IfOk result (λ f. f ≡ operators.of_parts (l ∷ r ∷ []) (operators.binary_folded op l r)) }
 {
@@ -82,8 +83,8 @@ pub fn binary(alloc: Global, op: BinaryOp, l: Folded, r: Folded) -> Result<Folde
         return Ok(Folded::Other);
     }
     match op {
-        BinaryOp::And => Ok(choice(&l, r, Folded::Gives(Literal::Bool(false)))),
-        BinaryOp::Or => Ok(choice(&l, Folded::Gives(Literal::Bool(true)), r)),
+        BinaryOp::And => Ok(choice(&l, r, Folded::Gives(Scalar::Bool(false)))),
+        BinaryOp::Or => Ok(choice(&l, Folded::Gives(Scalar::Bool(true)), r)),
         _ => strict(alloc, op, &l, &r),
     }
 }

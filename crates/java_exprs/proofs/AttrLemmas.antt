@@ -1,9 +1,9 @@
 -- What is known of each kind of expression, from what is known of its parts.
 use Rattle.std.proofs.Common.{◌≡◌, ◌∙◌, ℕ, Bool, List, map, sym, ap}
-use Rattle.java_syntax.specs.declared.name.Ident.{Ident}
-use Rattle.java_syntax.specs.declared.name.TypeTree.{TypeTree}
-use Rattle.java_syntax.specs.declared.name.BaseType.{BaseType}
-use Rattle.java_syntax.specs.declared.fault.CheckError.{CheckError}
+use Rattle.token_reading.specs.declared.name.Ident.{Ident}
+use Rattle.token_reading.specs.declared.name.TypeTree.{TypeTree}
+use Rattle.token_reading.specs.declared.name.BaseType.{BaseType}
+use Rattle.token_reading.specs.declared.fault.CheckError.{CheckError}
 use Rattle.java_syntax.specs.declared.operator.UnaryOp.{UnaryOp}
 use Rattle.java_syntax.specs.declared.operator.BinaryOp.{BinaryOp}
 use Rattle.java_syntax.specs.declared.expression.Expr.{Expr}
@@ -13,8 +13,9 @@ use Rattle.java_syntax.specs.declared.expression.Expr.TheFolds.{fold-Expr, fold-
 use Rattle.java_names.specs.declared.scope.Scope.{Scope}
 use Rattle.java_exprs.specs.Attr.{Attr, value_faults, values_faults}
 use Rattle.java_exprs.specs.declared.environment.Environment.{Environment}
-use Rattle.java_exprs.specs.Checks.{Refuses, attr, attr_at}
-use Rattle.java_exprs.proofs.RulesLemmas.{refuses_left, refuses_right}
+use Rattle.java_names.specs.Refusals.{Refuses}
+use Rattle.java_exprs.specs.Checks.{attr, attr_at}
+use Rattle.java_names.proofs.RefusalLemmas.{refuses_left, refuses_right}
 
 pub attr_number : (env : Environment) (s : Scope) (at : ℕ) (n : ℕ) → attr env s (tree.Number at n) ≡ attr_at env s (Expr-F.Number at n)
 unfolding attr

@@ -5,32 +5,34 @@ use Rattle.core_tree.specs.declared.ty.Ty.{Ty}
 use Rattle.core_tree.specs.Types.{class_of, is_string}
 use Rattle.core_tree.specs.declared.expr.Expr.{Expr as Core}
 use Rattle.core_tree.specs.declared.expr.Expr.TheVariants as core
-use Rattle.java_syntax.specs.declared.fault.Fault.{Fault}
-use Rattle.java_syntax.specs.declared.fault.CheckError.{CheckError}
-use Rattle.java_syntax.specs.declared.fault.CheckError.TheVariants as error
-use Rattle.java_syntax.specs.declared.name.Ident.{Ident}
+use Rattle.token_reading.specs.declared.fault.Fault.{Fault}
+use Rattle.token_reading.specs.declared.fault.CheckError.{CheckError}
+use Rattle.token_reading.specs.declared.fault.CheckError.TheVariants as error
+use Rattle.token_reading.specs.declared.name.Ident.{Ident}
 use Rattle.java_syntax.specs.declared.expression.Expr.TheOpen.{Expr-F}
 use Rattle.java_names.specs.declared.symbol.MethodSymbol.{MethodSymbol}
 use Rattle.java_names.specs.declared.scope.Scope.{Scope}
 use Rattle.java_names.specs.Lookups.{is_accessible}
 use Rattle.java_exprs.specs.declared.environment.Environment.{Environment}
 use Rattle.java_exprs.specs.declared.qualifier.Qualifier.TheVariants as qualifier
-use Rattle.java_exprs.specs.declared.through.Through.TheVariants as through
-use Rattle.java_exprs.specs.declared.typed.Denotation.{Denotation}
-use Rattle.java_exprs.specs.declared.typed.Denotation.TheVariants as denotes
+use Rattle.java_denotes.specs.declared.through.Through.TheVariants as through
+use Rattle.java_denotes.specs.declared.denotation.Denotation.{Denotation}
+use Rattle.java_denotes.specs.declared.denotation.Denotation.TheVariants as denotes
 use Rattle.java_exprs.specs.declared.typed.Form.{Form}
 use Rattle.java_exprs.specs.declared.typed.Form.TheVariants as form
 use Rattle.java_exprs.specs.declared.typed.Typed.{Typed}
 use Rattle.java_exprs.specs.declared.value.Value.{Value}
 use Rattle.java_exprs.specs.Attr.{Attr, of_rule, only_if, unless, is_no_value, nothing_11, value_faults, values_faults, prefix_faults}
 use Rattle.java_exprs.specs.Calls.{qualifier_of, calling_of, call_faults, call_attr, print_attr, text_faults, text_attr}
-use Rattle.java_exprs.specs.Checks.{Checks, Has, Refuses, attr_at, clean, of_value, of_values}
-use Rattle.java_exprs.specs.Denotes.{text_method}
+use Rattle.java_exprs.specs.Checks.{Checks, attr_at, clean, of_value, of_values}
+use Rattle.java_names.specs.Refusals.{Has, Refuses}
+use Rattle.java_denotes.specs.Denotes.{text_method}
 use Rattle.java_exprs.specs.Lookups.{superclass_of}
 use Rattle.java_exprs.specs.Members.{Calling}
 use Rattle.java_exprs.specs.Resolved.{cores, text_core}
 use Rattle.java_exprs.specs.Rules.{method_at, is_misplaced, needs_this, wants_each, calling_10, calling_11, calling_12, calling_13, rule_10, rule_11, rule_12, rule_13, broken_here}
-use Rattle.java_exprs.proofs.RulesLemmas.{no_faults, refuses_left, refuses_right, has_right, has_there, refuses_here, refuses_there}
+use Rattle.java_exprs.proofs.RulesLemmas.{no_faults, has_there, refuses_here, refuses_there}
+use Rattle.java_names.proofs.RefusalLemmas.{refuses_left, refuses_right, has_right}
 
 -- ---- what is broken by a call whose method is found
 
@@ -49,7 +51,7 @@ pub refuses_14 : (env : Environment) (s : Scope) (k : Calling) (found : MethodSy
 refuses_14 env s k found e is h =
     refuses_there 10 (calling_10 env k) _ e (refuses_there 11 (calling_11 env k) _ e (refuses_there 12 (calling_12 env k) _ e (refuses_there 13 (calling_13 env s k) _ e (rw is h))))
 
--- a fault of rule 14, behind those of rules 10 to 13
+-- a fault of rule 14, after those of rules 10 to 13
 behind_names : (xs ys zs ws : List ℕ) (test : Bool) (at : ℕ) → test ≡ true
     → Has (of_rule 10 xs (of_rule 11 ys (of_rule 12 zs (of_rule 13 ws (of_rule 14 (only_if test at) []))))) (record { rule = 14; at = at })
 behind_names xs ys zs ws test at is =

@@ -3,16 +3,16 @@ use Rattle.std.proofs.Common.{◌≡◌, ℕ, Bool, true, false, ◌||◌, ◌&&
 use Rattle.core_tree.specs.declared.ty.Ty.{Ty}
 use Rattle.core_tree.specs.declared.ty.Ty.TheVariants as ty
 use Rattle.core_tree.specs.declared.ty.Ty.TheViews as type
-use Rattle.core_tree.specs.Types.{elements_of, is_int, is_object, is_string}
+use Rattle.core_tree.specs.Types.{elements_of, is_int, is_object, is_string, is_array}
 use Rattle.core_tree.specs.declared.operator.UnOp.{UnOp}
 use Rattle.core_tree.specs.declared.operator.UnOp.TheVariants as un
 use Rattle.core_tree.specs.declared.expr.Expr.{Expr as Core}
 use Rattle.core_tree.specs.declared.expr.Expr.TheVariants as variant
 use Rattle.core_tree.specs.declared.expr.Expr.TheViews as view
-use Rattle.java_syntax.specs.declared.fault.Fault.{Fault}
-use Rattle.java_syntax.specs.declared.name.Ident.{Ident}
-use Rattle.java_syntax.specs.declared.name.TypeTree.{TypeTree}
-use Rattle.java_syntax.specs.declared.name.BaseType.{BaseType}
+use Rattle.token_reading.specs.declared.fault.Fault.{Fault}
+use Rattle.token_reading.specs.declared.name.Ident.{Ident}
+use Rattle.token_reading.specs.declared.name.TypeTree.{TypeTree}
+use Rattle.token_reading.specs.declared.name.BaseType.{BaseType}
 use Rattle.java_syntax.specs.declared.operator.UnaryOp.{UnaryOp}
 use Rattle.java_syntax.specs.declared.operator.UnaryOp.TheVariants as unary
 use Rattle.java_syntax.specs.declared.operator.BinaryOp.{BinaryOp}
@@ -22,8 +22,8 @@ use Rattle.java_names.specs.declared.symbol.MethodSymbol.{MethodSymbol}
 use Rattle.java_names.specs.declared.scope.Scope.{Scope}
 use Rattle.java_exprs.specs.declared.environment.Environment.{Environment}
 use Rattle.java_exprs.specs.declared.receiver.Receiver.{Receiver}
-use Rattle.java_exprs.specs.declared.typed.Denotation.{Denotation}
-use Rattle.java_exprs.specs.declared.typed.Denotation.TheVariants as denotes
+use Rattle.java_denotes.specs.declared.denotation.Denotation.{Denotation}
+use Rattle.java_denotes.specs.declared.denotation.Denotation.TheVariants as denotes
 use Rattle.java_exprs.specs.declared.typed.Form.{Form}
 use Rattle.java_exprs.specs.declared.typed.Form.TheVariants as form
 use Rattle.java_exprs.specs.declared.typed.Typed.{Typed}
@@ -31,13 +31,15 @@ use Rattle.java_exprs.specs.declared.value.Value.{Value}
 use Rattle.java_exprs.specs.Attr.{Attr, of_rule, unless}
 use Rattle.java_exprs.specs.Calls.{calling_of, call_faults, call_attr}
 use Rattle.java_exprs.specs.Checks.{attr_at, clean, of_value}
-use Rattle.java_exprs.specs.Denotes.{binary_type, length_name, unary_type}
+use Rattle.java_denotes.specs.Denotes.{binary_type, unary_type}
+use Rattle.java_denotes.specs.Library.{length_name}
 use Rattle.java_exprs.specs.Fields.{length_attr}
-use Rattle.java_exprs.specs.Lookups.{answer_denotes, elements_named, type_named, unknown_base, unknown_type}
+use Rattle.java_denotes.specs.Lookups.{answer_denotes}
+use Rattle.java_exprs.specs.Lookups.{elements_named, type_named, unknown_base, unknown_type}
 use Rattle.java_exprs.specs.Resolved.{binary_core, method_core, un_op}
-use Rattle.java_exprs.specs.Rules.{broken_below, broken_here, cast_15, choice_11, has_members, is_array, method_at, unary_11, wants}
-use Rattle.java_exprs.specs.Types.{is_either_way, wider}
-use Rattle.java_exprs.proofs.TypeForms.{int_is}
+use Rattle.java_exprs.specs.Rules.{broken_below, broken_here, cast_15, choice_11, has_members, method_at, unary_11, wants}
+use Rattle.java_denotes.specs.Types.{is_either_way, wider}
+use Rattle.core_tree.proofs.TypeFacts.{int_is}
 
 -- what is known, given each part of it
 pub known_by_parts : (at : ℕ) (d : Option Denotation) (f : Form) (c : Core) (faults : List Fault) (denotes : Denotation) (form : Form) (core : Core)

@@ -1,28 +1,30 @@
--- Lemmas on names behind a dot.
+-- Lemmas on names after a dot.
 use Rattle.std.proofs.Common.{◌≡◌, ℕ, true, false, [], ◌++◌, Some, refl, sym, ap, subst, inl}
 use Rattle.std.specs.Prelude.{Result}
 use Rattle.core_tree.specs.declared.ty.Ty.{Ty}
 use Rattle.core_tree.specs.declared.expr.Expr.{Expr as Core}
 use Rattle.core_tree.specs.declared.expr.Expr.TheVariants as core
-use Rattle.java_syntax.specs.declared.fault.CheckError.{CheckError}
-use Rattle.java_syntax.specs.declared.fault.CheckError.TheVariants as error
-use Rattle.java_syntax.specs.declared.name.Ident.{Ident}
+use Rattle.token_reading.specs.declared.fault.CheckError.{CheckError}
+use Rattle.token_reading.specs.declared.fault.CheckError.TheVariants as error
+use Rattle.token_reading.specs.declared.name.Ident.{Ident}
 use Rattle.java_syntax.specs.declared.expression.Expr.TheOpen.{Expr-F}
 use Rattle.java_names.specs.declared.symbol.FieldSymbol.{FieldSymbol}
 use Rattle.java_names.specs.declared.scope.Scope.{Scope}
 use Rattle.java_exprs.specs.declared.environment.Environment.{Environment}
 use Rattle.java_exprs.specs.declared.receiver.Receiver.{Receiver}
-use Rattle.java_exprs.specs.declared.through.Through.TheVariants as through
-use Rattle.java_exprs.specs.declared.typed.Denotation.TheVariants as denotes
-use Rattle.java_exprs.specs.declared.typed.Printing.{Printing}
+use Rattle.java_denotes.specs.declared.through.Through.TheVariants as through
+use Rattle.java_denotes.specs.declared.denotation.Denotation.TheVariants as denotes
+use Rattle.java_denotes.specs.declared.denotation.Printing.{Printing}
 use Rattle.java_exprs.specs.declared.typed.Typed.{Typed}
 use Rattle.java_exprs.specs.declared.value.Value.{Value}
 use Rattle.java_exprs.specs.Attr.{Attr, nothing_11, value_faults, prefix_faults}
-use Rattle.java_exprs.specs.Checks.{Checks, Has, Refuses, attr_at, clean, of_value}
+use Rattle.java_exprs.specs.Checks.{Checks, attr_at, clean, of_value}
+use Rattle.java_names.specs.Refusals.{Has, Refuses}
 use Rattle.java_exprs.specs.Fields.{field_attr, naming_attr, naming_of, output_attr}
-use Rattle.java_exprs.specs.Members.{named_member}
+use Rattle.java_denotes.specs.Members.{named_member}
 use Rattle.java_exprs.specs.Rules.{broken_here}
-use Rattle.java_exprs.proofs.RulesLemmas.{refuses_left, refuses_right, has_right, has_there}
+use Rattle.java_names.proofs.RefusalLemmas.{refuses_left, refuses_right, has_right}
+use Rattle.java_exprs.proofs.RulesLemmas.{has_there}
 
 known_checks : (a b : Attr) (result : Result Typed CheckError) → a ≡ b → Checks a result → Checks b result
 known_checks a b result is h = subst (λ a. Checks a result) is h
@@ -53,11 +55,11 @@ pub value_checks : (env : Environment) (s : Scope) (o : Typed) (v : Value) (f : 
 value_checks env s o v f result is = known_checks _ _ result (ap (λ a. attr_at env s (Expr-F.Field a f)) (sym is))
 
 member_known : (env : Environment) (s : Scope) (r : Receiver) (object : Core) (x : Ident) (m : FieldSymbol)
-    → named_member env (naming_of r core.This x) ≡ Some m → field_attr env s r object x m ≡ naming_attr env s r object x
+    → named_member env.symbols (naming_of r core.This x) ≡ Some m → field_attr env s r object x m ≡ naming_attr env s r object x
 member_known env s r object x m is = rw is refl
 
 pub member_checks : (env : Environment) (s : Scope) (r : Receiver) (object : Core) (x : Ident) (m : FieldSymbol) (result : Result Typed CheckError)
-    → named_member env (naming_of r core.This x) ≡ Some m
+    → named_member env.symbols (naming_of r core.This x) ≡ Some m
     → Checks (field_attr env s r object x m) result → Checks (naming_attr env s r object x) result
 member_checks env s r object x m result is = known_checks _ _ result (member_known env s r object x m is)
 

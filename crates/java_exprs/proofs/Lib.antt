@@ -1,5 +1,3 @@
-pub mod TypeForms
-pub mod TypeLemmas
 pub mod RulesLemmas
 pub mod NumberLemmas
 pub mod AttrLemmas

@@ -6,24 +6,25 @@ use Rattle.core_tree.specs.declared.ty.Ty.TheVariants as ty
 use Rattle.core_tree.specs.declared.ty.Ty.TheViews as type
 use Rattle.core_tree.specs.declared.ty.Ty.TheBlock.{shown-the_row-Ty-0}
 use Rattle.core_tree.specs.declared.expr.Expr.TheVariants as core
-use Rattle.java_syntax.specs.declared.name.Ident.{Ident}
-use Rattle.java_syntax.specs.declared.name.TypeTree.{TypeTree}
-use Rattle.java_syntax.specs.declared.name.BaseType.TheVariants.{Class}
+use Rattle.token_reading.specs.declared.name.Ident.{Ident}
+use Rattle.token_reading.specs.declared.name.TypeTree.{TypeTree}
+use Rattle.token_reading.specs.declared.name.BaseType.TheVariants.{Class}
 use Rattle.java_syntax.specs.declared.operator.BinaryOp.TheVariants as binary
 use Rattle.java_syntax.specs.declared.expression.Expr.TheOpen.{Expr-F}
+use Rattle.java_names.specs.Lookups.{is_below}
 use Rattle.java_names.specs.declared.symbol.ClassSymbol.{ClassSymbol}
 use Rattle.java_names.specs.declared.symbol.FieldSymbol.{FieldSymbol}
 use Rattle.java_names.specs.declared.scope.Scope.{Scope}
 use Rattle.java_names.specs.Scope.{first_scope, declared}
 use Rattle.java_exprs.specs.declared.environment.Environment.{Environment}
 use Rattle.java_exprs.specs.declared.folded.Folded.TheVariants as folded
-use Rattle.java_exprs.specs.declared.typed.Denotation.{Denotation}
-use Rattle.java_exprs.specs.declared.typed.Denotation.TheVariants as denotes
+use Rattle.java_denotes.specs.declared.denotation.Denotation.{Denotation}
+use Rattle.java_denotes.specs.declared.denotation.Denotation.TheVariants as denotes
 use Rattle.java_exprs.specs.declared.typed.Form.{Form}
 use Rattle.java_exprs.specs.declared.typed.Form.TheVariants as form
 use Rattle.java_exprs.specs.Attr.{Attr, value_faults, negated_faults, prefix_faults}
 use Rattle.java_exprs.specs.Operators.{gives_int, gives_bool, of_parts, binary_folded}
-use Rattle.java_exprs.proofs.TypeLemmas.{assignable-Class, assignable-Int, assignable-Array, assignable-Null}
+use Rattle.core_tree.proofs.TypeNodes.{assignable-Class, assignable-Int, assignable-Array, assignable-Null}
 use Rattle.java_exprs.specs.Rules.{rule_10, rule_11, rule_12, rule_13, rule_14, rule_15, rule_16, rule_19, rule_21}
 
 -- ---- what the rows speak of
@@ -150,11 +151,11 @@ string_printed = refl
 
 int_or_null : rule_11 env (inside 1) (Expr-F.Conditional (boolean 5) (int 7) (null 9)) ≡ 9 ∷ []
 unfolding out-Ty out shown-the_row-Ty-0 shown hidden
-int_or_null = rw (assignable-Int env.symbols, assignable-Null env.symbols) refl
+int_or_null = rw (assignable-Int (is_below env.symbols), assignable-Null (is_below env.symbols)) refl
 
 array_or_null : rule_11 env (inside 1) (Expr-F.Conditional (boolean 5) (array 7) (null 9)) ≡ []
 unfolding out-Ty out shown-the_row-Ty-0 shown hidden
-array_or_null = rw (assignable-Array env.symbols ty.Int, assignable-Null env.symbols) refl
+array_or_null = rw (assignable-Array (is_below env.symbols) ty.Int, assignable-Null (is_below env.symbols)) refl
 
 nothing_as_value : value_faults (part denotes.Nothing form.Call 7) ≡ record { rule = 11; at = 7 } ∷ []
 nothing_as_value = refl
@@ -203,15 +204,15 @@ cast_to_string = refl
 
 cast_of_int : rule_15 env (Expr-F.Cast 4 (class_type (codes "A") 5) (int 7)) ≡ 4 ∷ []
 unfolding out-Ty out shown-the_row-Ty-0 shown hidden
-cast_of_int = rw (assignable-Int env.symbols, assignable-Class env.symbols 0) refl
+cast_of_int = rw (assignable-Int (is_below env.symbols), assignable-Class (is_below env.symbols) 0) refl
 
 cast_upwards : rule_15 env (Expr-F.Cast 4 (class_type (codes "A") 5) (instance 7)) ≡ []
 unfolding out-Ty out shown-the_row-Ty-0 shown hidden
-cast_upwards = rw (assignable-Class env.symbols 1) refl
+cast_upwards = rw (assignable-Class (is_below env.symbols) 1) refl
 
 cast_downwards : rule_15 env (Expr-F.Cast 4 (class_type (codes "B") 5) (of_type (ty.Class 0) 7)) ≡ []
 unfolding out-Ty out shown-the_row-Ty-0 shown hidden
-cast_downwards = rw (assignable-Class env.symbols 0, assignable-Class env.symbols 1) refl
+cast_downwards = rw (assignable-Class (is_below env.symbols) 0, assignable-Class (is_below env.symbols) 1) refl
 
 -- ---- 16
 

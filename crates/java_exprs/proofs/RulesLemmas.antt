@@ -1,28 +1,14 @@
 -- Lemmas on lists of faults.
 use Rattle.std.proofs.Common.{◌≡◌, ℕ, List, [], ◌∷◌, ◌++◌, map, length, refl, sym, ap, arith, inl, inr}
-use Rattle.java_syntax.specs.declared.fault.Fault.{Fault}
-use Rattle.java_syntax.specs.declared.fault.CheckError.{CheckError}
-use Rattle.java_syntax.specs.declared.fault.CheckError.TheVariants as error
+use Rattle.token_reading.specs.declared.fault.Fault.{Fault}
+use Rattle.token_reading.specs.declared.fault.CheckError.{CheckError}
+use Rattle.token_reading.specs.declared.fault.CheckError.TheVariants as error
 use Rattle.class_table.specs.Faults.{Blames, OfRule}
 use Rattle.java_exprs.specs.declared.value.Value.{Value}
 use Rattle.java_exprs.specs.Attr.{Attr, of_rule, value_faults, values_faults}
-use Rattle.java_exprs.specs.Checks.{Has, Refuses, of_values}
-
-pub has_left : (xs ys : List Fault) (f : Fault) → Has xs f → Has (xs ++ ys) f
-has_left [] ys f h = elim h [ ]
-has_left (x ∷ xs) ys f h = elim h [ inl e ↦ inl e | inr m ↦ inr (has_left xs ys f m) ]
-
-pub has_right : (xs ys : List Fault) (f : Fault) → Has ys f → Has (xs ++ ys) f
-has_right [] ys f h = h
-has_right (x ∷ xs) ys f h = inr (has_right xs ys f h)
-
-pub refuses_left : (xs ys : List Fault) (e : CheckError) → Refuses xs e → Refuses (xs ++ ys) e
-refuses_left xs ys (error.Fault f) h = has_left xs ys f h
-refuses_left xs ys error.OutOfMemory h = tt
-
-pub refuses_right : (xs ys : List Fault) (e : CheckError) → Refuses ys e → Refuses (xs ++ ys) e
-refuses_right xs ys (error.Fault f) h = has_right xs ys f h
-refuses_right xs ys error.OutOfMemory h = tt
+use Rattle.java_names.specs.Refusals.{Has, Refuses}
+use Rattle.java_names.proofs.RefusalLemmas.{refuses_left, refuses_right}
+use Rattle.java_exprs.specs.Checks.{of_values}
 
 -- ---- faults of rules
 
@@ -79,7 +65,7 @@ pub faults_behind : (vs : List Value) (parts : List Attr) → values_faults (of_
 faults_behind [] parts = refl
 faults_behind (v ∷ vs) parts = faults_behind vs parts
 
--- a part of a list, behind parts that break nothing
+-- a part of a list, after parts that break nothing
 pub refuses_among : (all : List Attr) (done : List Value) (a : Attr) (rest : List Attr) (e : CheckError)
     → all ≡ of_values done ++ a ∷ rest → Refuses (value_faults a) e → Refuses (values_faults all) e
 refuses_among all done a rest e is h = rw (is, faults_behind done (a ∷ rest)) (refuses_left (value_faults a) (values_faults rest) e h)

@@ -1,21 +1,22 @@
 -- Lemmas on expressions that stand where a value is needed.
 use Rattle.std.proofs.Common.{◌≡◌, ℕ, true, false, None, [], ◌++◌, ◌⊎◌, refl, inl, inr}
 use Rattle.core_tree.specs.declared.ty.Ty.{Ty}
-use Rattle.core_tree.specs.Types.{elements_of, is_int}
-use Rattle.java_syntax.specs.declared.fault.CheckError.{CheckError}
-use Rattle.java_syntax.specs.declared.fault.CheckError.TheVariants as error
+use Rattle.core_tree.specs.Types.{elements_of, is_int, is_array}
+use Rattle.token_reading.specs.declared.fault.CheckError.{CheckError}
+use Rattle.token_reading.specs.declared.fault.CheckError.TheVariants as error
 use Rattle.java_syntax.specs.declared.operator.UnaryOp.TheVariants as unary
 use Rattle.java_syntax.specs.declared.expression.Expr.TheOpen.{Expr-F}
 use Rattle.java_names.specs.declared.scope.Scope.{Scope}
 use Rattle.java_exprs.specs.declared.environment.Environment.{Environment}
-use Rattle.java_exprs.specs.declared.typed.Denotation.{Denotation}
-use Rattle.java_exprs.specs.declared.typed.Denotation.TheVariants as denotes
-use Rattle.java_exprs.specs.declared.typed.Printing.{Printing}
+use Rattle.java_denotes.specs.declared.denotation.Denotation.{Denotation}
+use Rattle.java_denotes.specs.declared.denotation.Denotation.TheVariants as denotes
+use Rattle.java_denotes.specs.declared.denotation.Printing.{Printing}
 use Rattle.java_exprs.specs.declared.typed.Typed.{Typed}
 use Rattle.java_exprs.specs.declared.value.Value.{Value}
 use Rattle.java_exprs.specs.Attr.{of_rule, value_faults}
-use Rattle.java_exprs.specs.Checks.{Refuses, attr_at, clean, of_value}
-use Rattle.java_exprs.specs.Rules.{is_array, wants}
+use Rattle.java_names.specs.Refusals.{Refuses}
+use Rattle.java_exprs.specs.Checks.{attr_at, clean, of_value}
+use Rattle.java_exprs.specs.Rules.{wants}
 
 -- a class or the library
 abbrev pub IsName : Denotation → Type 0

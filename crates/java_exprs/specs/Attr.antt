@@ -1,15 +1,14 @@
 -- What is known of an expression, and what is asked of a part by where it stands.
 use Rattle.std.specs.Prelude.{ℕ, Bool, true, false, List, [], ◌∷◌, ◌++◌, Option, Some, None}
-use Rattle.core_tree.specs.declared.ty.Ty.{Ty}
 use Rattle.core_tree.specs.declared.expr.Expr.{Expr as Core}
-use Rattle.java_syntax.specs.declared.fault.Fault.{Fault}
+use Rattle.token_reading.specs.declared.fault.Fault.{Fault}
 use Rattle.java_syntax.specs.declared.expression.Expr.TheOpen.{Expr-F}
-use Rattle.java_exprs.specs.declared.typed.Denotation.{Denotation}
-use Rattle.java_exprs.specs.declared.typed.Denotation.TheVariants as denotes
+use Rattle.java_denotes.specs.declared.denotation.Denotation.{Denotation}
+use Rattle.java_denotes.specs.declared.denotation.Denotation.TheVariants as denotes
 use Rattle.java_exprs.specs.declared.typed.Form.{Form}
 
--- what is known of an expression: the number of its first token, what it denotes where its names are known, its form, whether
--- it is the number 2147483648, what it resolves to, and the rules that are broken in it, wherever it stands
+-- what is known of an expression: the number of its first token, what it denotes where its names are known, its form,
+-- whether it is the number 2147483648, what it resolves to, and the rules that are broken in it, wherever it stands
 pub record Attr : Type 0 where
   pub at : ℕ
   pub denotes : Option Denotation
@@ -35,11 +34,6 @@ of_rule rule [] more = more
 of_rule rule (at ∷ ats) more = record { rule = rule; at = at } ∷ of_rule rule ats more
 
 -- ---- where a part stands
-
--- the type of a value
-abbrev pub value_type : Option Denotation → Option Ty
-value_type (Some (denotes.Value t)) = Some t
-value_type _ = None
 
 -- a class or the library, which is no value
 abbrev pub is_no_value : Option Denotation → Bool

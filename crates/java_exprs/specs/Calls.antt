@@ -3,24 +3,24 @@ use Rattle.std.specs.Prelude.{ℕ, Bool, List, [], ◌∷◌, Option, Some, None
 use Rattle.core_tree.specs.declared.ty.Ty.TheVariants as ty
 use Rattle.core_tree.specs.declared.expr.Expr.{Expr as Core}
 use Rattle.core_tree.specs.declared.expr.Expr.TheVariants as core
-use Rattle.java_syntax.specs.declared.fault.Fault.{Fault}
-use Rattle.java_syntax.specs.declared.name.Ident.{Ident}
+use Rattle.token_reading.specs.declared.fault.Fault.{Fault}
+use Rattle.token_reading.specs.declared.name.Ident.{Ident}
 use Rattle.java_names.specs.declared.scope.Scope.{Scope}
 use Rattle.java_exprs.specs.declared.environment.Environment.{Environment}
 use Rattle.java_exprs.specs.declared.qualifier.Qualifier.{Qualifier}
 use Rattle.java_exprs.specs.declared.qualifier.Qualifier.TheVariants as qualifier
 use Rattle.java_exprs.specs.declared.receiver.Receiver.{Receiver}
-use Rattle.java_exprs.specs.declared.typed.Denotation.{Denotation}
-use Rattle.java_exprs.specs.declared.typed.Denotation.TheVariants as denotes
+use Rattle.java_denotes.specs.declared.denotation.Denotation.{Denotation}
+use Rattle.java_denotes.specs.declared.denotation.Denotation.TheVariants as denotes
 use Rattle.java_exprs.specs.declared.typed.Form.TheVariants as form
 use Rattle.java_exprs.specs.declared.value.Value.{Value}
 use Rattle.java_exprs.specs.Attr.{Attr, of_rule}
 use Rattle.java_exprs.specs.Checks.{of_values}
-use Rattle.java_exprs.specs.Types.{is_printed}
-use Rattle.java_exprs.specs.Denotes.{call_denotes, is_print, library_method}
+use Rattle.java_exprs.specs.Rules.{is_printed, wants, wants_type, calling_10, calling_11, calling_12, calling_13, calling_14, method_10, library_11, library_12}
+use Rattle.java_denotes.specs.Denotes.{call_denotes, library_method}
+use Rattle.java_denotes.specs.Library.{is_print}
 use Rattle.java_exprs.specs.Members.{Calling}
 use Rattle.java_exprs.specs.Resolved.{call_core, library_core, first_core}
-use Rattle.java_exprs.specs.Rules.{wants, wants_type, calling_10, calling_11, calling_12, calling_13, calling_14, method_10, library_11, library_12}
 
 -- a call of the method of that name with these arguments
 abbrev pub calling_of : Receiver → Core → Ident → List Value → Calling
@@ -34,7 +34,7 @@ call_faults env s k =
 
 -- what is known of it, where it begins with token `at` and its arguments break nothing
 abbrev pub call_attr : Environment → Scope → ℕ → Calling → Attr
-call_attr env s at k = record { at = at; denotes = call_denotes env k; form = form.Call; needs_minus = Bool.false; core = call_core env k; faults = call_faults env s k }
+call_attr env s at k = record { at = at; denotes = call_denotes env.symbols k; form = form.Call; needs_minus = Bool.false; core = call_core env k; faults = call_faults env s k }
 
 -- ---- the library's methods
 
@@ -56,7 +56,7 @@ abbrev pub equals_11 : Environment → List Attr → List ℕ
 equals_11 env (x ∷ []) = wants_type env ty.Text x
 equals_11 env xs = []
 
--- what is broken by a method behind a value that is no object of a class
+-- what is broken by a method after a value that isn't an object of a class
 abbrev pub text_faults : Environment → Attr → Ident → List Attr → List Fault
 text_faults env o m xs = of_rule 10 (method_10 m o.denotes) (of_rule 11 (library_11 env o m xs o.denotes) (of_rule 12 (library_12 m xs o.denotes) []))
 
@@ -66,7 +66,7 @@ text_attr env o m xs = record { at = o.at; denotes = library_method m.name xs o.
 
 -- ---- before the dot
 
--- what a method is called behind; nothing behind `System`
+-- what a method is called after; nothing after `System`
 abbrev pub qualifier_of : Denotation → Option Qualifier
 qualifier_of (denotes.Class c) = Some (qualifier.Class c)
 qualifier_of denotes.Output = Some qualifier.Output

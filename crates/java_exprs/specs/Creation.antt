@@ -3,8 +3,8 @@ use Rattle.std.specs.Prelude.{ℕ, List, [], length, is_some}
 use Rattle.std.specs.Option.{option_map_or}
 use Rattle.core_tree.specs.declared.expr.Expr.{Expr as Core}
 use Rattle.core_tree.specs.declared.expr.Expr.TheViews as view
-use Rattle.java_syntax.specs.declared.fault.Fault.{Fault}
-use Rattle.java_syntax.specs.declared.name.Ident.{Ident}
+use Rattle.token_reading.specs.declared.fault.Fault.{Fault}
+use Rattle.token_reading.specs.declared.name.Ident.{Ident}
 use Rattle.java_names.specs.declared.scope.Scope.{Scope}
 use Rattle.java_names.specs.declared.symbol.MakerSymbol.{MakerSymbol}
 use Rattle.java_exprs.specs.declared.environment.Environment.{Environment}

@@ -5,23 +5,26 @@ use Rattle.core_tree.specs.declared.ty.Ty.{Ty}
 use Rattle.core_tree.specs.declared.expr.Expr.{Expr as Core}
 use Rattle.core_tree.specs.declared.expr.Expr.TheVariants as core
 use Rattle.core_tree.specs.declared.expr.Expr.TheViews as view
-use Rattle.java_syntax.specs.declared.fault.Fault.{Fault}
-use Rattle.java_syntax.specs.declared.name.Ident.{Ident}
+use Rattle.token_reading.specs.declared.fault.Fault.{Fault}
+use Rattle.token_reading.specs.declared.name.Ident.{Ident}
 use Rattle.class_table.specs.Names.{same_name}
 use Rattle.java_names.specs.declared.scope.Scope.{Scope}
 use Rattle.java_names.specs.declared.symbol.FieldSymbol.{FieldSymbol}
 use Rattle.java_names.specs.Lookups.{is_accessible}
 use Rattle.java_exprs.specs.declared.environment.Environment.{Environment}
 use Rattle.java_exprs.specs.declared.receiver.Receiver.{Receiver}
-use Rattle.java_exprs.specs.declared.through.Through.{Through}
-use Rattle.java_exprs.specs.declared.typed.Denotation.TheVariants as denotes
+use Rattle.java_denotes.specs.declared.through.Through.{Through}
+use Rattle.java_denotes.specs.declared.denotation.Denotation.TheVariants as denotes
 use Rattle.java_exprs.specs.declared.typed.Form.{Form}
 use Rattle.java_exprs.specs.declared.typed.Form.TheVariants as form
 use Rattle.java_exprs.specs.declared.value.Value.{Value}
 use Rattle.java_exprs.specs.Attr.{Attr, of_rule, only_if, unless}
 use Rattle.java_exprs.specs.Checks.{of_value}
-use Rattle.java_exprs.specs.Denotes.{class_denotes, library_field, member_denotes, member_form, system_name}
-use Rattle.java_exprs.specs.Lookups.{class_named, constant_at, variable_denotes}
+use Rattle.java_denotes.specs.Denotes.{class_denotes, library_field, member_denotes}
+use Rattle.java_exprs.specs.Denotes.{member_form}
+use Rattle.java_denotes.specs.Library.{system_name}
+use Rattle.java_exprs.specs.Lookups.{class_named, constant_at}
+use Rattle.java_denotes.specs.Lookups.{variable_denotes}
 use Rattle.java_exprs.specs.Members.{Naming}
 use Rattle.java_exprs.specs.Resolved.{literal_core, member_core}
 use Rattle.java_exprs.specs.Rules.{field_10, is_behind_class, naming_10, naming_11, naming_13, naming_14, needs_this, prefix_11}
@@ -61,7 +64,7 @@ naming_of r object x = record { through = r.through; class = r.class; object = o
 abbrev pub naming_attr : Environment → Scope → Receiver → Core → Ident → Attr
 naming_attr env s r object x = let k = naming_of r object x in record {
   at = r.at;
-  denotes = member_denotes env k;
+  denotes = member_denotes env.symbols k;
   form = member_form env k;
   needs_minus = Bool.false;
   core = member_core env k;
@@ -74,14 +77,14 @@ naming_attr env s r object x = let k = naming_of r object x in record {
 abbrev pub class_attr : Environment → Ident → Attr
 class_attr env x = record {
   at = x.at;
-  denotes = class_denotes env x.name;
+  denotes = class_denotes env.symbols x.name;
   form = form.Other;
   needs_minus = Bool.false;
   core = core.Null;
   faults = of_rule 10 (unless (is_some (class_named env x.name) || same_name x.name system_name) x.at) [];
 }
 
--- what is known of a name behind a value that is no object of a class
+-- what is known of a name after a value that isn't an object of a class
 abbrev pub length_attr : Value → Ident → Attr
 length_attr o f = let d = Some (denotes.Value o.ty) in record {
   at = o.at;
@@ -92,7 +95,7 @@ length_attr o f = let d = Some (denotes.Value o.ty) in record {
   faults = of_rule 10 (field_10 f d) (of_rule 11 (prefix_11 (of_value o)) []);
 }
 
--- what is known of a name behind `System`
+-- what is known of a name after `System`
 abbrev pub output_attr : ℕ → Core → Ident → Attr
 output_attr at system f = record {
   at = at;

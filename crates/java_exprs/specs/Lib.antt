@@ -1,4 +1,3 @@
-pub mod Types
 pub mod Operators
 pub mod Attr
 pub mod Lookups

@@ -1,9 +1,8 @@
--- What is known beside an expression, and what its names stand for.
-use Rattle.std.specs.Prelude.{ℕ, ◌==◌, Bool, List, Option, Some, None, find, option_map, option_and_then, slice_get, if◌then◌else◌}
+-- What is known beside an expression: what the file declares, and the values of its constants.
+use Rattle.std.specs.Prelude.{ℕ, ◌==◌, Bool, List, Option, find, option_map, option_and_then}
 use Rattle.core_tree.specs.declared.ty.Ty.{Ty}
-use Rattle.core_tree.specs.Types.{is_void}
-use Rattle.java_syntax.specs.declared.name.TypeTree.{TypeTree}
-use Rattle.java_syntax.specs.declared.name.BaseType.{BaseType}
+use Rattle.token_reading.specs.declared.name.TypeTree.{TypeTree}
+use Rattle.token_reading.specs.declared.name.BaseType.{BaseType}
 use Rattle.class_table.specs.Names.{Name}
 use Rattle.java_names.specs.declared.symbol.FieldSymbol.{FieldSymbol}
 use Rattle.java_names.specs.declared.symbol.MethodSymbol.{MethodSymbol}
@@ -12,20 +11,11 @@ use Rattle.java_names.specs.declared.scope.Scope.{Scope}
 use Rattle.java_names.specs.Types as types
 use Rattle.java_names.specs.Lookups as names
 use Rattle.java_names.specs.Scope.{local_of}
-use Rattle.java_exprs.specs.declared.literal.Literal.{Literal}
+use Rattle.primitive_operators.specs.declared.scalar.Scalar.{Scalar}
 use Rattle.java_exprs.specs.declared.environment.Environment.{Environment}
-use Rattle.java_exprs.specs.declared.typed.Denotation.{Denotation}
-use Rattle.java_exprs.specs.declared.typed.Denotation.TheVariants as denotes
+use Rattle.java_denotes.specs.Lookups.{method_named}
 
 -- ---- types
-
--- the value of a variable; nothing is known of one whose type has an unknown name
-abbrev pub variable_denotes : Ty → Option Denotation
-variable_denotes t = if is_void t then None else Some (denotes.Value t)
-
--- what a call of a method gives
-abbrev pub answer_denotes : Ty → Denotation
-answer_denotes t = if is_void t then denotes.Nothing else denotes.Value t
 
 -- the type that is spelled
 abbrev pub type_named : Environment → TypeTree → Option Ty
@@ -47,7 +37,7 @@ abbrev pub class_named : Environment → Name → Option ℕ
 class_named env x = names.class_number env.symbols x
 
 abbrev pub superclass_of : Environment → ℕ → Option ℕ
-superclass_of env c = option_and_then (λ class. class.parent) (names.class_at env.symbols c)
+superclass_of env c = names.parent_of env.symbols c
 
 abbrev pub member_of : Environment → ℕ → Name → Option FieldSymbol
 member_of env c x = names.field_of env.symbols c x
@@ -56,7 +46,7 @@ abbrev pub has_method : Environment → ℕ → Name → Bool
 has_method env c m = names.has_method env.symbols c m
 
 abbrev pub method_of : Environment → ℕ → Name → ℕ → Option MethodSymbol
-method_of env c m arity = names.method_of env.symbols c (record { name = m; arity = arity })
+method_of env c m arity = method_named env.symbols c m arity
 
 abbrev pub maker_of : Environment → ℕ → ℕ → Option MakerSymbol
 maker_of env c arity = names.maker_of env.symbols c arity
@@ -65,9 +55,6 @@ maker_of env c arity = names.maker_of env.symbols c arity
 abbrev pub local_named : Scope → Name → Option ℕ
 local_named s x = local_of s x
 
-abbrev pub local_denotes : Scope → ℕ → Option Denotation
-local_denotes s n = option_and_then variable_denotes (slice_get s.slots n)
-
 -- the value of the constant whose name is this token
-abbrev pub constant_at : Environment → ℕ → Option Literal
+abbrev pub constant_at : Environment → ℕ → Option Scalar
 constant_at env at = option_and_then (λ c. c.1) (find (λ c. c.0 == at) env.constants)

@@ -1,5 +1,5 @@
--- What an expression resolves to. Where a name is unknown, and where nothing is denoted that has a value or is called, it
--- means nothing.
+-- What an expression resolves to. Where a name is unknown, and where nothing is denoted that has a value or is called,
+-- it means nothing.
 use Rattle.std.specs.Prelude.{ℕ, pos, Bool, ◌||◌, List, [], ◌∷◌, map, length, Option, Some, None, slice_get, unwrap_or, if◌then◌else◌}
 use Rattle.std.specs.Option.{option_map_or}
 use Rattle.pb_int.specs.Int32.{wrap}
@@ -12,25 +12,26 @@ use Rattle.core_tree.specs.declared.expr.Site.{Site}
 use Rattle.core_tree.specs.declared.expr.Expr.{Expr as Core}
 use Rattle.core_tree.specs.declared.expr.Expr.TheVariants as core
 use Rattle.core_tree.specs.declared.expr.Expr.TheViews as view
-use Rattle.java_syntax.specs.declared.name.Ident.{Ident}
+use Rattle.token_reading.specs.declared.name.Ident.{Ident}
 use Rattle.java_syntax.specs.declared.operator.UnaryOp.{UnaryOp}
 use Rattle.java_syntax.specs.declared.operator.UnaryOp.TheVariants as unary
 use Rattle.java_syntax.specs.declared.operator.BinaryOp.{BinaryOp}
 use Rattle.java_syntax.specs.declared.operator.BinaryOp.TheVariants as binary
-use Rattle.java_syntax.specs.declared.place.TokenPlace.{TokenPlace}
+use Rattle.token_reading.specs.declared.place.TokenPlace.{TokenPlace}
 use Rattle.java_syntax.specs.declared.expression.Expr.TheOpen.{Expr-F}
 use Rattle.class_table.specs.Names.{Name}
 use Rattle.java_names.specs.declared.scope.Scope.{Scope}
 use Rattle.java_names.specs.declared.symbol.MethodSymbol.{MethodSymbol}
 use Rattle.java_exprs.specs.declared.environment.Environment.{Environment}
-use Rattle.java_exprs.specs.declared.literal.Literal.{Literal}
-use Rattle.java_exprs.specs.declared.literal.Literal.TheVariants as literal
-use Rattle.java_exprs.specs.declared.typed.Denotation.{Denotation}
-use Rattle.java_exprs.specs.declared.typed.Denotation.TheVariants as denotes
-use Rattle.java_exprs.specs.declared.through.Through.TheVariants as through
-use Rattle.java_exprs.specs.Attr.{Attr, Node, value_type}
-use Rattle.java_exprs.specs.Members.{Naming, Calling, naming, calling, named_member}
-use Rattle.java_exprs.specs.Denotes.{is_text}
+use Rattle.primitive_operators.specs.declared.scalar.Scalar.{Scalar}
+use Rattle.primitive_operators.specs.declared.scalar.Scalar.TheVariants as scalar
+use Rattle.java_denotes.specs.declared.denotation.Denotation.{Denotation}
+use Rattle.java_denotes.specs.declared.denotation.Denotation.TheVariants as denotes
+use Rattle.java_denotes.specs.declared.through.Through.TheVariants as through
+use Rattle.java_exprs.specs.Attr.{Attr, Node}
+use Rattle.java_denotes.specs.Members.{value_type, called_method, named_member}
+use Rattle.java_exprs.specs.Members.{Naming, Calling, naming, calling}
+use Rattle.java_denotes.specs.Denotes.{is_text}
 use Rattle.java_exprs.specs.Lookups.{method_of, class_named, local_named, maker_of, type_named, elements_named, constant_at}
 
 abbrev pub cores : List Attr → List Core
@@ -45,17 +46,17 @@ abbrev pub site_at : List TokenPlace → ℕ → Site
 site_at places at = option_map_or (λ p. record { line = p.line; column = p.column }) (slice_get places at) (record { line = 1; column = 1 })
 
 -- the value of a constant
-abbrev pub literal_core : Literal → Core
-literal_core (literal.Int n) = core.Int n
-literal_core (literal.Bool b) = core.Bool b
-literal_core (literal.Text t) = core.Text t
-literal_core literal.Null = core.Null
+abbrev pub literal_core : Scalar → Core
+literal_core (scalar.Int n) = core.Int n
+literal_core (scalar.Bool b) = core.Bool b
+literal_core (scalar.Text t) = core.Text t
+literal_core scalar.Null = core.Null
 
 -- a field is read from its object; a constant is its value
 abbrev pub member_core : Environment → Naming → Core
 member_core env k =
     option_map_or (λ m. option_map_or (λ place. view.Field k.object place) m.place (option_map_or literal_core (constant_at env m.at) core.Null))
-    (named_member env k) core.Null
+    (named_member env.symbols k) core.Null
 
 -- a call on an object is chosen by its class; through `super` it isn't, and the built-in `getMessage` reads the message
 abbrev pub instance_call : Calling → MethodSymbol → Site → Core
@@ -70,7 +71,7 @@ method_core env k m =
     else instance_call k m (site_at env.places k.name.at)
 
 abbrev pub call_core : Environment → Calling → Core
-call_core env k = option_map_or (method_core env k) (method_of env k.class k.name.name (length k.arguments)) core.Null
+call_core env k = option_map_or (method_core env k) (called_method env.symbols k) core.Null
 
 abbrev pub name_core : Environment → Scope → Ident → Option Naming → Core
 name_core env s x k = option_map_or core.Local (local_named s x.name) (option_map_or (member_core env) k core.Null)

@@ -1,12 +1,12 @@
--- Which rules a node of an expression breaks, and where: for each rule the places at which the node breaks it, given what is
--- known of its parts. What a part breaks by where it stands is in `Attr`.
+-- Which rules a node of an expression breaks, and where: for each rule the places at which the node breaks it, given
+-- what is known of its parts. What a part breaks by where it stands is in `Attr`.
 use Rattle.std.specs.Prelude.{ℕ, Bool, true, false, not, ◌||◌, ◌&&◌, ◌==◌, nat_le, List, [], ◌∷◌, ◌++◌, length, Option, Some, None, is_some, is_none, if◌then◌else◌}
 use Rattle.std.specs.Option.{option_map_or}
 use Rattle.core_tree.specs.declared.ty.Ty.{Ty}
 use Rattle.core_tree.specs.declared.ty.Ty.TheVariants as ty
-use Rattle.core_tree.specs.Types.{elements_of, is_int, is_boolean, is_string, is_null, is_void, is_object}
-use Rattle.java_syntax.specs.declared.fault.Fault.{Fault}
-use Rattle.java_syntax.specs.declared.name.Ident.{Ident}
+use Rattle.core_tree.specs.Types.{is_int, is_boolean, is_string, is_null, is_void, is_object, is_array}
+use Rattle.token_reading.specs.declared.fault.Fault.{Fault}
+use Rattle.token_reading.specs.declared.name.Ident.{Ident}
 use Rattle.java_syntax.specs.declared.operator.UnaryOp.{UnaryOp}
 use Rattle.java_syntax.specs.declared.operator.UnaryOp.TheVariants as unary
 use Rattle.java_syntax.specs.declared.operator.BinaryOp.{BinaryOp}
@@ -17,14 +17,15 @@ use Rattle.java_names.specs.declared.scope.Scope.{Scope}
 use Rattle.java_names.specs.declared.symbol.MethodSymbol.{MethodSymbol}
 use Rattle.java_names.specs.Lookups.{is_accessible}
 use Rattle.java_exprs.specs.declared.environment.Environment.{Environment}
-use Rattle.java_exprs.specs.declared.typed.Denotation.{Denotation}
-use Rattle.java_exprs.specs.declared.typed.Denotation.TheVariants as denotes
-use Rattle.java_exprs.specs.declared.through.Through.{Through}
-use Rattle.java_exprs.specs.declared.through.Through.TheVariants as through
-use Rattle.java_exprs.specs.Types.{is_assignable, is_either_way, is_printed}
-use Rattle.java_exprs.specs.Attr.{Attr, Node, value_type, unless, only_if, of_rule, value_faults, values_faults, negated_faults, prefix_faults}
-use Rattle.java_exprs.specs.Members.{Naming, Calling, naming, calling, named_member}
-use Rattle.java_exprs.specs.Denotes.{system_name, is_print, println_name, out_name, length_name, equals_name}
+use Rattle.java_denotes.specs.declared.denotation.Denotation.{Denotation}
+use Rattle.java_denotes.specs.declared.denotation.Denotation.TheVariants as denotes
+use Rattle.java_denotes.specs.declared.through.Through.{Through}
+use Rattle.java_denotes.specs.declared.through.Through.TheVariants as through
+use Rattle.java_denotes.specs.Types.{is_assignable, is_either_way}
+use Rattle.java_exprs.specs.Attr.{Attr, Node, unless, only_if, of_rule, value_faults, values_faults, negated_faults, prefix_faults}
+use Rattle.java_denotes.specs.Members.{value_type, called_method, named_member}
+use Rattle.java_exprs.specs.Members.{Naming, Calling, naming, calling}
+use Rattle.java_denotes.specs.Library.{system_name, is_print, println_name, out_name, length_name, equals_name}
 use Rattle.java_exprs.specs.Lookups.{member_of, has_method, method_of, class_named, local_named, maker_of, unknown_type, unknown_base, type_named}
 
 -- ---- what is asked of parts
@@ -51,13 +52,14 @@ of_types ask l r = option_map_or (λ a. option_map_or (λ b. ask a b) (value_typ
 abbrev pub has_members : Ty → Bool
 has_members t = is_object t || is_string t
 
-abbrev pub is_array : Ty → Bool
-is_array t = is_some (elements_of t)
+-- a type that a print shows
+abbrev pub is_printed : Ty → Bool
+is_printed t = is_int t || (is_boolean t || is_string t)
 
 -- ---- fields and methods, through `this`, `super`, a class or an object
 
 abbrev pub method_at : Environment → Calling → Option MethodSymbol
-method_at env k = method_of env k.class k.name.name (length k.arguments)
+method_at env k = called_method env.symbols k
 
 abbrev pub is_behind_class : Through → Bool
 is_behind_class through.Class = true
@@ -69,7 +71,7 @@ is_on_object through.Super = true
 is_on_object through.Object = true
 is_on_object _ = false
 
--- a name alone, or one behind a class, has no object but `this`
+-- a name alone, or one after a class, has no object but `this`
 abbrev pub needs_this : Through → Bool
 needs_this through.This = true
 needs_this through.Class = true
@@ -94,7 +96,7 @@ method_10 m (Some (denotes.Value t)) = unless (not (has_members t) || (is_string
 method_10 m _ = []
 
 abbrev pub naming_10 : Environment → Naming → List ℕ
-naming_10 env k = unless (is_some (named_member env k)) k.name.at
+naming_10 env k = unless (is_some (named_member env.symbols k)) k.name.at
 
 abbrev pub calling_10 : Environment → Calling → List ℕ
 calling_10 env k = unless (has_method env k.class k.name.name) k.name.at
@@ -117,11 +119,11 @@ rule_10 env s _ = []
 
 -- ---- 11: a type doesn't fit
 
--- an instance field behind a class
+-- an instance field named through a class
 abbrev pub naming_11 : Environment → Naming → List ℕ
-naming_11 env k = only_if (is_behind_class k.through && option_map_or (λ m. is_some m.place) (named_member env k) false) k.name.at
+naming_11 env k = only_if (is_behind_class k.through && option_map_or (λ m. is_some m.place) (named_member env.symbols k) false) k.name.at
 
--- an instance method behind a class, or a static one on an object
+-- an instance method after a class, or a static one on an object
 abbrev pub is_misplaced : Through → MethodSymbol → Bool
 is_misplaced through m = (is_behind_class through && not m.is_static) || (is_on_object through && m.is_static)
 
@@ -148,7 +150,7 @@ unary_11 _ e = wants is_int e
 abbrev pub both_11 : (Ty → Bool) → Attr → Attr → List ℕ
 both_11 test l r = wants test l ++ wants test r
 
--- an int or a boolean, and the same behind it
+-- an int or a boolean, and the same after it
 abbrev pub is_bitwise : Ty → Bool
 is_bitwise t = is_int t || is_boolean t
 
@@ -225,7 +227,7 @@ rule_12 env s _ = []
 -- ---- 13: a private member is named outside its class
 
 abbrev pub naming_13 : Environment → Scope → Naming → List ℕ
-naming_13 env s k = option_map_or (λ m. unless (is_accessible s.class m.owner m.is_private) k.name.at) (named_member env k) []
+naming_13 env s k = option_map_or (λ m. unless (is_accessible s.class m.owner m.is_private) k.name.at) (named_member env.symbols k) []
 
 abbrev pub calling_13 : Environment → Scope → Calling → List ℕ
 calling_13 env s k = option_map_or (λ m. unless (is_accessible s.class m.owner m.is_private) k.name.at) (method_at env k) []
@@ -245,7 +247,7 @@ rule_13 env s _ = []
 -- ---- 14: `this`, `super` or an instance member in a static method or constant
 
 abbrev pub naming_14 : Environment → Scope → Naming → List ℕ
-naming_14 env s k = only_if (s.is_static && (needs_this k.through && option_map_or (λ m. is_some m.place) (named_member env k) false)) k.name.at
+naming_14 env s k = only_if (s.is_static && (needs_this k.through && option_map_or (λ m. is_some m.place) (named_member env.symbols k) false)) k.name.at
 
 abbrev pub calling_14 : Environment → Scope → Calling → List ℕ
 calling_14 env s k = only_if (s.is_static && (needs_this k.through && option_map_or (λ m. not m.is_static) (method_at env k) false)) k.name.at

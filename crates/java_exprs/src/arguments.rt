@@ -2,22 +2,22 @@
 
 ghost use Rattle.std.specs.Prelude.{◌≡◌, [], map, IfOk, IfErr, reverse};
 ghost use Rattle.java_exprs.specs.Attr.{of_rule};
-ghost use Rattle.java_exprs.specs.Checks.{Allows, of_value, of_values};
+ghost use Rattle.java_names.specs.Refusals.{Allows};
+ghost use Rattle.java_exprs.specs.Checks.{of_value, of_values};
 ghost use Rattle.java_exprs.specs.Rules as rule;
 
-use crate::assignability::is_assignable;
 use crate::environment::Environment;
 use crate::fault::fault;
-use crate::forms::is_void;
 use crate::value::Value;
-use class_table::Shared;
-use core_tree::{Expr, Ty};
+use core_tree::forms::is_void;
+use core_tree::{Expr, Shared, Ty};
+use java_denotes::assignability::is_assignable;
 use java_syntax::CheckError;
 use sqlite_items::Items;
 use std::alloc::{AllocError, Global};
 
-/// Sees that a value can be assigned to a variable of this type. Where the type is `Void`, its name is unknown, and nothing
-/// is asked.
+/// Checks that a value can be assigned to a variable of this type. Where the type is `Void`, its name is unknown, and
+/// nothing is asked.
 ///
 /// # Errors
 /// `Fault` of rule 11 at the value's first token, where it doesn't fit.
@@ -30,8 +30,8 @@ pub fn fit(env: &Environment, given: &Value, want: &Ty) -> Result<(), CheckError
     Err(fault(11, given.at))
 }
 
-/// Sees that each argument fits its parameter (JLS 15.12.2.2). It takes time in proportion to their number, and for each
-/// to what `is_assignable` takes.
+/// Checks that each argument fits its parameter (JLS 15.12.2.2). It takes time in proportion to their number, and for
+/// each to what `is_assignable` takes.
 ///
 /// # Errors
 /// `Fault` of rule 11 at the first token of the first argument that doesn't fit.
@@ -67,7 +67,7 @@ fn cores_backwards(alloc: Global, given: Items<Value>) -> Result<Vec<Expr>, Allo
 /// The resolved expressions of the arguments, in order.
 ///
 /// # Errors
-/// `OutOfMemory` where there is no memory left.
+/// `OutOfMemory` where memory runs out.
 pub fn cores(alloc: Global, given: Items<Value>) -> Result<Items<Expr>, CheckError>
     ensures cores { IfOk result (λ cores. cores ≡ map (λ v. v.core) given) }
     ensures memory { IfErr result (λ e. e ≡ CheckError.OutOfMemory) }

@@ -5,19 +5,21 @@ ghost use Rattle.core_tree.specs.declared.expr.Expr.TheVariants as core;
 ghost use Rattle.java_names.specs.Lookups.{is_accessible as accessible};
 ghost use Rattle.java_exprs.specs.Attr.{of_rule, only_if, unless};
 ghost use Rattle.java_exprs.specs.Calls.{calling_of, call_faults};
-ghost use Rattle.java_exprs.specs.Checks.{Allows, Refuses, of_values};
+ghost use Rattle.java_names.specs.Refusals.{Allows, Refuses};
+ghost use Rattle.java_exprs.specs.Checks.{of_values};
 ghost use Rattle.java_exprs.specs.Rules as rule;
 
 use crate::arguments::fit_each;
 use crate::environment::Environment;
 use crate::fault::fault;
 use crate::receiver::Receiver;
-use crate::through::Through;
 use crate::value::Value;
-use java_names::{MethodSymbol, Scope, Selector, is_accessible};
+use java_denotes::Through;
+use java_denotes::calls::method_named;
+use java_names::{MethodSymbol, Scope, is_accessible};
 use java_syntax::{CheckError, Ident};
 
-// Whether a method behind a class or an object is of the other kind: on an object behind a class, static on an object.
+// Whether a method after a class or an object is of the other kind: on an object after a class, static on an object.
 fn is_misplaced(through: Through, found: &MethodSymbol) -> bool
     ensures { result ≡ rule.is_misplaced through found.now }
 {
@@ -35,7 +37,7 @@ fn needs_this(through: Through) -> bool
     matches!(through, Through::This | Through::Class)
 }
 
-// The method of that name that takes so many arguments.
+// The method of that name that takes that many arguments.
 #[tactic(auto, using(crate::proofs::RulesLemmas::length_values))]
 fn find<'a>(
     env: &'a Environment,
@@ -51,17 +53,14 @@ fn find<'a>(
     if !env.symbols.has_method(receiver.class, &m.name) {
         return Err(fault(10, m.at));
     }
-    let selector = Selector {
-        name: m.name.clone()?,
-        arity: arguments.len(),
-    };
-    match env.symbols.method(receiver.class, &selector) {
+    let arity = arguments.len();
+    match method_named(&env.symbols, receiver.class, &m.name, arity)? {
         Some(found) => Ok(found),
         None => Err(fault(12, m.at)),
     }
 }
 
-// Sees that the method is static or not, as what stands before the dot asks.
+// Checks that the method is static or not, as what stands before the dot asks.
 fn check_kind(through: Through, m: &Ident, found: &MethodSymbol) -> Result<(), CheckError>
     ensures { Allows (of_rule 11 (only_if (rule.is_misplaced through found.now) m.now.at) []) result }
 {
@@ -71,7 +70,7 @@ fn check_kind(through: Through, m: &Ident, found: &MethodSymbol) -> Result<(), C
     Ok(())
 }
 
-// Sees that the method suits what stands before the dot and the arguments.
+// Checks that the method suits what stands before the dot and the arguments.
 fn check_types(
     env: &Environment,
     through: Through,
@@ -85,7 +84,7 @@ fn check_types(
     fit_each(env, arguments, found.params.as_slice())
 }
 
-// Sees that the method isn't private to another class.
+// Checks that the method isn't private to another class.
 fn check_access(scope: &Scope, m: &Ident, found: &MethodSymbol) -> Result<(), CheckError>
     ensures { Allows (of_rule 13 (unless (accessible scope.now.class found.now.owner found.now.is_private) m.now.at) []) result }
 {
@@ -95,7 +94,7 @@ fn check_access(scope: &Scope, m: &Ident, found: &MethodSymbol) -> Result<(), Ch
     Err(fault(13, m.at))
 }
 
-// Sees that there is a `this` where the method needs it.
+// Checks that there is a `this` where the method needs it.
 fn check_this(
     scope: &Scope,
     through: Through,
@@ -114,10 +113,10 @@ fn check_this(
 /// inherited one.
 ///
 /// # Errors
-/// `Fault` at the name, or at an argument: of rule 10 where the class has no method of that name, of rule 12 where it has
-/// none with so many parameters, of rule 11 where the method is static on an object, isn't static behind a class, or an
-/// argument doesn't fit, of rule 13 where it is private to another class, and of rule 14 where it needs a `this` that isn't
-/// there. `OutOfMemory` where there is no memory left.
+/// `Fault` at the name, or at an argument: of rule 10 where the class has no method of that name, of rule 12 where it
+/// has none with that many parameters, of rule 11 where the method is static on an object, isn't static but called
+/// through a class, or an argument doesn't fit, of rule 13 where it is private to another class, and of rule 14 where
+/// it needs a `this` that isn't there. `OutOfMemory` where memory runs out.
 pub fn callee<'a>(
     env: &'a Environment,
     scope: &Scope,

@@ -4,41 +4,27 @@ ghost use Rattle.std.specs.Prelude.{◌≡◌, Some, IfOk, IfErr};
 ghost use Rattle.core_tree.specs.declared.expr.Expr.TheVariants as core;
 ghost use Rattle.java_syntax.specs.declared.expression.Expr.TheOpen.{Expr-F};
 ghost use Rattle.java_exprs.specs.declared.qualifier.Qualifier.TheVariants as qualifier;
-ghost use Rattle.java_exprs.specs.declared.through.Through.TheVariants as through;
+ghost use Rattle.java_denotes.specs.declared.through.Through.TheVariants as through;
 ghost use Rattle.java_exprs.specs.Calls.{calling_of, call_attr, qualifier_of};
 ghost use Rattle.java_exprs.specs.Checks.{Checks, attr_at, clean, of_value, of_values};
-ghost use Rattle.java_exprs.specs.Lookups as names;
 
 use crate::callee::callee;
 use crate::environment::Environment;
 use crate::fault::fault;
-use crate::forms::{class_of, is_void};
 use crate::invocation::invocation;
 use crate::library_calls::{print, text_call};
 use crate::qualifier::{Qualifier, qualifier_of};
 use crate::receiver::Receiver;
-use crate::through::Through;
-use crate::typed::{Denotation, Form, Typed};
+use crate::typed::{Form, Typed};
 use crate::value::Value;
-use core_tree::{Expr, Ty};
+use core_tree::Expr;
+use core_tree::forms::class_of;
+use java_denotes::calls::answer;
+use java_denotes::{Denotation, Through};
 use java_names::Scope;
 use java_syntax::{CheckError, Ident};
 use sqlite_items::Items;
 use std::alloc::Global;
-
-// What a call of a method with this result gives.
-fn answer(alloc: Global, ty: &Ty) -> Result<Denotation, CheckError>
-    ensures denotes { IfOk result (λ d. d ≡ names.answer_denotes ty.now) }
-    ensures memory { IfErr result (λ e. e ≡ CheckError.OutOfMemory) }
-{
-    if is_void(ty) {
-        return Ok(Denotation::Nothing);
-    }
-    match ty.copy(alloc) {
-        Ok(ty) => Ok(Denotation::Value(ty)),
-        Err(_) => Err(CheckError::OutOfMemory),
-    }
-}
 
 // A call of the method of that name in the receiver's class.
 fn called(
@@ -67,7 +53,7 @@ fn called(
 /// `m(..)`, a method of the class that the call stands in.
 ///
 /// # Errors
-/// `Fault` of rules 10 to 14, at the method's name or at an argument. `OutOfMemory` where there is no memory left.
+/// `Fault` of rules 10 to 14, at the method's name or at an argument. `OutOfMemory` where memory runs out.
 #[tactic(auto, using(crate::proofs::CallLemmas::call_checks))]
 pub fn call(
     alloc: Global,
@@ -86,21 +72,11 @@ pub fn call(
     called(alloc, env, scope, receiver, Expr::This, m, arguments)
 }
 
-// The superclass of a class; `None` of `Object` alone.
-fn superclass(env: &Environment, class: u32) -> Option<u32>
-    ensures { result ≡ names.superclass_of env.now class }
-{
-    match env.symbols.class(class) {
-        Some(symbol) => symbol.parent,
-        None => None,
-    }
-}
-
 /// `super.m(..)`, where `at` is the place of `super`.
 ///
 /// # Errors
-/// `Fault` of rule 14 at `super` where there is no `this`, and of rules 10 to 13 at the method's name or at an argument.
-/// `OutOfMemory` where there is no memory left.
+/// `Fault` of rule 14 at `super` where there is no `this`, and of rules 10 to 13 at the method's name or at an
+/// argument. `OutOfMemory` where memory runs out.
 #[tactic(auto, using(crate::proofs::CallLemmas::super_checks, crate::proofs::CallLemmas::super_in_static))]
 pub fn super_call(
     alloc: Global,
@@ -116,7 +92,7 @@ pub fn super_call(
         return Err(fault(14, at));
     }
     // No body stands in `Object`, the one class without a superclass.
-    let Some(class) = superclass(env, scope.class) else {
+    let Some(class) = env.symbols.superclass(scope.class) else {
         return Err(CheckError::OutOfMemory);
     };
     let receiver = Receiver {
@@ -127,7 +103,7 @@ pub fn super_call(
     called(alloc, env, scope, receiver, Expr::This, m, arguments)
 }
 
-// A call behind a class, whose name is at token `at`.
+// A call after a class, whose name is at token `at`.
 fn behind_class(
     alloc: Global,
     env: &Environment,
@@ -147,7 +123,7 @@ fn behind_class(
     called(alloc, env, scope, receiver, Expr::This, m, arguments)
 }
 
-// A call behind a value.
+// A call after a value.
 #[tactic(auto, using(crate::proofs::CallLemmas::object_checks, crate::proofs::CallLemmas::text_checks))]
 fn behind_value(
     alloc: Global,
@@ -172,7 +148,7 @@ fn behind_value(
     }
 }
 
-// A call behind a value, or behind a call without a result.
+// A call after a value, or after a call without a result.
 #[tactic(auto, using(crate::proofs::CallLemmas::value_checks, crate::proofs::CallLemmas::value_refused))]
 fn behind_part(
     alloc: Global,
@@ -192,8 +168,8 @@ fn behind_part(
 /// `o.m(..)`: a method of a class, of an object or of a String, or a print.
 ///
 /// # Errors
-/// `Fault` of rule 11 where `o` is a call without a result, and of rule 19 where it is the number 2147483648, at its first
-/// token; of rules 10 to 14 at the method's name or at an argument. `OutOfMemory` where there is no memory left.
+/// `Fault` of rule 11 where `o` is a call without a result, and of rule 19 where it is the number 2147483648, at its
+/// first token; of rules 10 to 14 at the method's name or at an argument. `OutOfMemory` where memory runs out.
 pub fn method(
     alloc: Global,
     env: &Environment,

@@ -3,18 +3,20 @@
 ghost use Rattle.std.specs.Prelude.{◌≡◌, [], Some, IfOk, IfErr, OnOk};
 ghost use Rattle.java_syntax.specs.declared.expression.Expr.TheOpen.{Expr-F};
 ghost use Rattle.java_exprs.specs.Attr.{of_rule};
-ghost use Rattle.java_exprs.specs.Checks.{Allows, Checks, Refuses, attr_at, of_value};
+ghost use Rattle.java_names.specs.Refusals.{Allows, Refuses};
+ghost use Rattle.java_exprs.specs.Checks.{Checks, attr_at, of_value};
 ghost use Rattle.java_exprs.specs.Lookups as names;
 ghost use Rattle.java_exprs.specs.Rules as rule;
 
-use crate::assignability::is_either_way;
 use crate::environment::Environment;
 use crate::fault::fault;
-use crate::forms::{is_object, is_string};
 use crate::operators::wants_int;
-use crate::typed::{Denotation, Form, Typed};
+use crate::typed::{Form, Typed};
 use crate::value::Value;
+use core_tree::forms::{is_object, is_string};
 use core_tree::{Expr, Ty};
+use java_denotes::Denotation;
+use java_denotes::assignability::is_either_way;
 use java_names::{Scope, resolve_type};
 use java_syntax::{BaseType, CheckError, Ident, TypeTree};
 use sqlite_items::Boxed;
@@ -23,7 +25,7 @@ use std::alloc::{AllocError, Global};
 /// The type that is spelled.
 ///
 /// # Errors
-/// `Fault` of rule 10 at its name, where that is unknown. `OutOfMemory` where there is no memory left.
+/// `Fault` of rule 10 at its name, where that is unknown. `OutOfMemory` where memory runs out.
 #[tactic(auto, using(crate::proofs::RulesLemmas::one_place))]
 pub fn named_type(alloc: Global, env: &Environment, tree: &TypeTree) -> Result<Ty, CheckError>
     ensures found { IfOk result (λ t. names.type_named env.now tree.now ≡ Some t) }
@@ -33,7 +35,7 @@ pub fn named_type(alloc: Global, env: &Environment, tree: &TypeTree) -> Result<T
     resolve_type(alloc, &env.symbols.names, tree)
 }
 
-// Sees that a value may be cast to the type.
+// Checks that a value may be cast to the type.
 fn check_cast(env: &Environment, at: u32, to: &Ty, e: &Value) -> Result<(), CheckError>
     ensures { Allows (of_rule 15 (rule.cast_15 env.now at (Some to.now) (of_value e.now)) []) result }
 {

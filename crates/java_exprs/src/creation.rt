@@ -5,7 +5,8 @@ ghost use Rattle.core_tree.specs.declared.expr.Expr.TheViews as view;
 ghost use Rattle.java_names.specs.Lookups.{is_accessible as accessible};
 ghost use Rattle.java_syntax.specs.declared.expression.Expr.TheOpen.{Expr-F};
 ghost use Rattle.java_exprs.specs.Attr.{of_rule, unless};
-ghost use Rattle.java_exprs.specs.Checks.{Allows, Checks, Refuses, attr_at, of_value, of_values};
+ghost use Rattle.java_names.specs.Refusals.{Allows, Refuses};
+ghost use Rattle.java_exprs.specs.Checks.{Checks, attr_at, of_value, of_values};
 ghost use Rattle.java_exprs.specs.Creation.{maker_core, new_faults};
 ghost use Rattle.java_exprs.specs.Lookups as names;
 ghost use Rattle.java_exprs.specs.Resolved as resolved;
@@ -15,9 +16,10 @@ use crate::arguments::{cores, fit_each};
 use crate::environment::Environment;
 use crate::fault::fault;
 use crate::operators::wants_int;
-use crate::typed::{Denotation, Form, Typed};
+use crate::typed::{Form, Typed};
 use crate::value::Value;
 use core_tree::{Expr, Ty};
+use java_denotes::Denotation;
 use java_names::{MakerSymbol, Scope, arrays, is_accessible, resolve_base};
 use java_syntax::{BaseType, CheckError, Ident};
 use sqlite_items::{Boxed, Items};
@@ -41,11 +43,11 @@ fn elements_type(
     Ok(arrays(alloc, base, dimensions)?)
 }
 
-/// `new T[e][]..`, with so many empty pairs of brackets.
+/// `new T[e][]..`, with that many empty pairs of brackets.
 ///
 /// # Errors
-/// `Fault` of rule 10 at the name of `T` where that is unknown, and of rule 11 at the first token of `e` where that is no int.
-/// `OutOfMemory` where there is no memory left.
+/// `Fault` of rule 10 at the name of `T` where that is unknown, and of rule 11 at the first token of `e` where that is
+/// no int. `OutOfMemory` where memory runs out.
 #[tactic(auto, using(crate::proofs::RulesLemmas::joins))]
 pub fn new_array(
     alloc: Global,
@@ -87,7 +89,7 @@ fn named_class(env: &Environment, class: &Ident) -> Result<u32, CheckError>
     }
 }
 
-// The constructor of that class with so many parameters. `Fault` of rule 12 where there is none.
+// The constructor of that class with that many parameters. `Fault` of rule 12 where there is none.
 #[tactic(auto, using(crate::proofs::CreationLemmas::made_with))]
 fn maker<'a>(
     env: &'a Environment,
@@ -104,7 +106,7 @@ fn maker<'a>(
     }
 }
 
-// Sees that the constructor isn't private to another class.
+// Checks that the constructor isn't private to another class.
 fn check_access(
     scope: &Scope,
     number: u32,
@@ -170,9 +172,9 @@ fn new_core(
 /// `new C(..)`
 ///
 /// # Errors
-/// `Fault` of rule 10 at the name where no class has it, of rule 12 there where the class has no constructor with so many
-/// parameters, of rule 13 there where that is private to another class, and of rule 11 at the first token of an argument that
-/// doesn't fit. `OutOfMemory` where there is no memory left.
+/// `Fault` of rule 10 at the name where no class has it, of rule 12 there where the class has no constructor with that
+/// many parameters, of rule 13 there where that is private to another class, and of rule 11 at the first token of an
+/// argument that doesn't fit. `OutOfMemory` where memory runs out.
 #[tactic(auto, using(crate::proofs::RulesLemmas::joins, crate::proofs::RulesLemmas::no_faults))]
 pub fn new_object(
     alloc: Global,

@@ -4,7 +4,8 @@ ghost use Rattle.std.specs.Prelude.{◌≡◌, [], IfOk, IfErr, map, option_map}
 ghost use Rattle.std.specs.Option.{option_map_or};
 ghost use Rattle.java_syntax.specs.declared.expression.Expr.TheOpen.{Expr-F};
 ghost use Rattle.java_exprs.specs.Attr.{value_faults, values_faults};
-ghost use Rattle.java_exprs.specs.Checks.{Checks, Refuses, attr, attr_at, of_value, of_values};
+ghost use Rattle.java_exprs.specs.Checks.{Checks, attr, attr_at, of_value, of_values};
+ghost use Rattle.java_names.specs.Refusals.{Refuses};
 
 use crate::environment::Environment;
 use crate::typed::Typed;
@@ -18,7 +19,7 @@ use std::alloc::Global;
 /// What is known of an expression, and what it resolves to.
 ///
 /// # Errors
-/// `Fault` of a rule that is broken in the expression. `OutOfMemory` where there is no memory left.
+/// `Fault` of a rule that is broken in the expression. `OutOfMemory` where memory runs out.
 #[cycle(expressions)]
 #[tactic(auto, using(crate::proofs::AttrLemmas::attrs, crate::proofs::AttrLemmas::below))]
 pub fn expr(alloc: Global, env: &Environment, scope: &Scope, e: &Expr) -> Result<Typed, CheckError>

@@ -1,45 +1,33 @@
-//! Names behind a dot (JLS 6.5.6.2, 10.7, 15.11).
+//! Names after a dot (JLS 6.5.6.2, 10.7, 15.11).
 
 ghost use Rattle.std.specs.Prelude.{◌≡◌, [], Some, IfOk, IfErr};
 ghost use Rattle.core_tree.specs.declared.expr.Expr.TheVariants as core;
 ghost use Rattle.class_table.specs.Names.{same_name};
 ghost use Rattle.java_syntax.specs.declared.expression.Expr.TheOpen.{Expr-F};
 ghost use Rattle.java_exprs.specs.Attr.{of_rule};
-ghost use Rattle.java_exprs.specs.Checks.{Checks, Refuses, attr_at, clean, of_value};
-ghost use Rattle.java_exprs.specs.Denotes as denotes;
+ghost use Rattle.java_exprs.specs.Checks.{Checks, attr_at, clean, of_value};
+ghost use Rattle.java_names.specs.Refusals.{Refuses};
+ghost use Rattle.java_denotes.specs.Library as denotes;
 ghost use Rattle.java_exprs.specs.Fields.{length_attr, naming_attr, naming_of, output_attr};
-ghost use Rattle.java_exprs.specs.Members as members;
+ghost use Rattle.java_denotes.specs.Members as members;
 ghost use Rattle.java_exprs.specs.Rules as rule;
 
 use crate::environment::Environment;
 use crate::fault::fault;
-use crate::forms::{class_of, has_members, is_array};
-use crate::library_names::is_length;
+use crate::forms::has_members;
 use crate::members::member;
 use crate::receiver::Receiver;
-use crate::through::Through;
-use crate::typed::{Denotation, Form, Typed};
+use crate::typed::{Form, Typed};
 use crate::value::Value;
+use core_tree::forms::{class_of, is_array};
 use core_tree::{Expr, Ty};
+use java_denotes::library::{is_length, is_out};
+use java_denotes::names::found;
+use java_denotes::{Denotation, Through};
 use java_names::{FieldSymbol, Scope};
 use java_syntax::{CheckError, Ident};
-use java_tokens::Name;
 use sqlite_items::Boxed;
 use std::alloc::Global;
-
-// Whether a name is `out`.
-fn is_out(name: &Name) -> bool
-    ensures { result ≡ same_name name.now denotes.out_name }
-{
-    name.characters() == ['o', 'u', 't'].as_slice()
-}
-
-// Whether a field or constant is found there: behind an object only instance fields are.
-fn is_found(through: Through, field: &FieldSymbol) -> bool
-    ensures { result ≡ members.is_found through field.now }
-{
-    field.place.is_some() || !matches!(through, Through::Object)
-}
 
 // The field or constant of that name in the receiver's class. `Fault` of rule 10 where there is none.
 fn find<'a>(
@@ -47,16 +35,16 @@ fn find<'a>(
     receiver: Receiver,
     f: &Ident,
 ) -> Result<&'a FieldSymbol, CheckError>
-    ensures found { IfOk result (λ field. members.named_member env.now (naming_of receiver core.This f.now) ≡ Some field.now) }
+    ensures found { IfOk result (λ field. members.named_member env.now.symbols (naming_of receiver core.This f.now) ≡ Some field.now) }
     ensures fault { IfErr result (Refuses (of_rule 10 (rule.naming_10 env.now (naming_of receiver core.This f.now)) [])) }
 {
-    match env.symbols.field(receiver.class, &f.name) {
-        Some(field) if is_found(receiver.through, field) => Ok(field),
-        _ => Err(fault(10, f.at)),
+    match found(&env.symbols, receiver.through, receiver.class, &f.name) {
+        Some(field) => Ok(field),
+        None => Err(fault(10, f.at)),
     }
 }
 
-// A field or constant behind a class or an object of one.
+// A field or constant after a class or an object of one.
 fn member_behind(
     alloc: Global,
     env: &Environment,
@@ -71,7 +59,7 @@ fn member_behind(
     member(alloc, env, scope, receiver, object, f, field)
 }
 
-// The length of an array; every other name behind a value that is no object of a class is refused.
+// The length of an array; every other name after a value that isn't an object of a class is refused.
 fn array_length(alloc: Global, o: Value, f: &Ident) -> Result<Typed, CheckError>
     ensures { Checks (length_attr o f.now) result }
 {
@@ -91,7 +79,7 @@ fn array_length(alloc: Global, o: Value, f: &Ident) -> Result<Typed, CheckError>
     })
 }
 
-// A name behind a value.
+// A name after a value.
 fn behind_value(
     alloc: Global,
     env: &Environment,
@@ -114,7 +102,7 @@ fn behind_value(
     }
 }
 
-// A name behind `System`, of which only `out` is known. What it resolves to means nothing.
+// A name after `System`, of which only `out` is known. What it resolves to means nothing.
 fn output(alloc: Global, at: u32, system: Expr, f: &Ident) -> Result<Typed, CheckError>
     ensures { Checks (output_attr at system f.now) result }
 {
@@ -130,14 +118,14 @@ fn output(alloc: Global, at: u32, system: Expr, f: &Ident) -> Result<Typed, Chec
     })
 }
 
-/// `o.f`: a field behind an object, a field or constant behind a class, the length of an array, or `System.out`.
+/// `o.f`: a field of an object, a field or constant of a class, the length of an array, or `System.out`.
 ///
 /// # Errors
-/// `Fault` at the name: of rule 10 where it is unknown, of rule 11 where it is an instance field behind a class, of rule 13
-/// where it is private to another class, and of rule 14 where it is an instance field behind a class and there is no `this`.
-/// `Fault` at the first token of `o`: of rule 11 where it is an int, a boolean, null or a call without a result, and of rule 19
-/// where it is the number 2147483648. `OutOfMemory` where there is no memory left, and where the type of the field's
-/// declaration has an unknown name.
+/// `Fault` at the name: of rule 10 where it is unknown, of rule 11 where it is an instance field named through a class,
+/// of rule 13 where it is private to another class, and of rule 14 where it is an instance field named through a class
+/// and there is no `this`. `Fault` at the first token of `o`: of rule 11 where it is an int, a boolean, null or a call
+/// without a result, and of rule 19 where it is the number 2147483648. `OutOfMemory` where memory runs out, and where
+/// the type of the field's declaration has an unknown name.
 pub fn field(
     alloc: Global,
     env: &Environment,

@@ -11,9 +11,9 @@ ghost use Rattle.java_exprs.specs.Resolved as resolved;
 use crate::arguments::cores;
 use crate::environment::Environment;
 use crate::receiver::Receiver;
-use crate::through::Through;
 use crate::value::Value;
 use core_tree::{Expr, Site};
+use java_denotes::Through;
 use java_names::MethodSymbol;
 use java_syntax::{CheckError, Ident, TokenPlace};
 use sqlite_items::{Boxed, Items, at};
@@ -81,10 +81,11 @@ fn chosen_call(
     Ok(Expr::Chosen(object, selector, cores(alloc, arguments)?, site))
 }
 
-/// The resolved call of a method, on an object where it isn't static. Through `super` and on `this` the object is `this`.
+/// The resolved call of a method, on an object where it isn't static. Through `super` and on `this` the object is
+/// `this`.
 ///
 /// # Errors
-/// `OutOfMemory` where there is no memory left.
+/// `OutOfMemory` where memory runs out.
 pub fn invocation(
     alloc: Global,
     env: &Environment,

@@ -4,23 +4,26 @@ ghost use Rattle.std.specs.Prelude.{◌≡◌, ◌≤◌, ℕ, List, [], Some, t
 ghost use Rattle.std.specs.Option.{option_to_list};
 ghost use Rattle.class_table.specs.Names.{same_name};
 ghost use Rattle.core_tree.specs.Types as of;
-ghost use Rattle.java_exprs.specs.declared.typed.Denotation.TheVariants as denotation;
+ghost use Rattle.java_denotes.specs.declared.denotation.Denotation.TheVariants as denotation;
 ghost use Rattle.java_exprs.specs.Attr.{of_rule};
 ghost use Rattle.java_exprs.specs.Calls.{equals_11, print_attr, print_faults, text_attr, text_faults};
-ghost use Rattle.java_exprs.specs.Checks.{Allows, Checks, of_value, of_values};
-ghost use Rattle.java_exprs.specs.Denotes as denotes;
+ghost use Rattle.java_names.specs.Refusals.{Allows};
+ghost use Rattle.java_exprs.specs.Checks.{Checks, of_value, of_values};
+ghost use Rattle.java_denotes.specs.Denotes as denotes;
+ghost use Rattle.java_denotes.specs.Library as library;
 ghost use Rattle.java_exprs.specs.Resolved as resolved;
 ghost use Rattle.java_exprs.specs.Rules as rule;
-ghost use Rattle.java_exprs.specs.Types as spec;
 
 use crate::arguments::fit;
 use crate::environment::Environment;
 use crate::fault::fault;
-use crate::forms::{has_members, is_printed, is_string};
-use crate::library_names::{is_equals, is_length, is_print, is_println};
-use crate::typed::{Denotation, Form, Printing, Typed};
+use crate::forms::{has_members, is_printed};
+use crate::typed::{Form, Typed};
 use crate::value::Value;
+use core_tree::forms::is_string;
 use core_tree::{Expr, Ty};
+use java_denotes::library::{is_equals, is_length, is_print, is_println};
+use java_denotes::{Denotation, Printing};
 use java_syntax::{CheckError, Ident};
 use java_tokens::Name;
 use sqlite_items::{Boxed, Items};
@@ -35,9 +38,9 @@ fn only(arguments: Items<Value>) -> Option<Value>
     arguments.pop()
 }
 
-// Sees that a print shows the value.
+// Checks that a print shows the value.
 fn check_printed(value: &Value) -> Result<(), CheckError>
-    ensures { Allows (of_rule 11 (rule.wants spec.is_printed (of_value value.now)) []) result }
+    ensures { Allows (of_rule 11 (rule.wants rule.is_printed (of_value value.now)) []) result }
 {
     if is_printed(&value.ty) {
         return Ok(());
@@ -45,7 +48,7 @@ fn check_printed(value: &Value) -> Result<(), CheckError>
     Err(fault(11, value.at))
 }
 
-// Sees that `System.out` has such a method, and that it takes these arguments.
+// Checks that `System.out` has such a method, and that it takes these arguments.
 fn check_print(m: &Ident, arguments: &[Value]) -> Result<(), CheckError>
     ensures allowed { Allows (print_faults m.now (of_values arguments.now)) result }
     ensures few { OnOk result (length arguments.now ≤ 1) }
@@ -63,8 +66,8 @@ fn check_print(m: &Ident, arguments: &[Value]) -> Result<(), CheckError>
 /// `System.out.print(..)` or `System.out.println(..)`, whose first token is `at`.
 ///
 /// # Errors
-/// `Fault` at the method's name of rule 10 where it is no print, and of rule 12 where it takes another number of arguments;
-/// of rule 11 at an argument that is no int, boolean or String.
+/// `Fault` at the method's name of rule 10 where it isn't a print, and of rule 12 where it takes another number of
+/// arguments; of rule 11 at an argument that is no int, boolean or String.
 pub fn print(at: u32, m: &Ident, arguments: Items<Value>) -> Result<Typed, CheckError>
     ensures { Checks (print_attr at m.now (of_values arguments)) result }
 {
@@ -86,9 +89,9 @@ pub fn print(at: u32, m: &Ident, arguments: Items<Value>) -> Result<Typed, Check
     })
 }
 
-// Sees that `equals` takes these arguments.
+// Checks that `equals` takes these arguments.
 fn check_equals(env: &Environment, m: &Ident, arguments: &[Value]) -> Result<(), CheckError>
-    requires { same_name m.now.name denotes.equals_name ≡ true }
+    requires { same_name m.now.name library.equals_name ≡ true }
     ensures allowed { Allows (of_rule 11 (equals_11 env.now (of_values arguments.now)) (of_rule 12 (rule.text_12 m.now (of_values arguments.now)) [])) result }
     ensures few { OnOk result (length arguments.now ≤ 1) }
 {
@@ -98,9 +101,9 @@ fn check_equals(env: &Environment, m: &Ident, arguments: &[Value]) -> Result<(),
     }
 }
 
-// Sees that `length` takes these arguments.
+// Checks that `length` takes these arguments.
 fn check_length(m: &Ident, arguments: &[Value]) -> Result<(), CheckError>
-    requires { same_name m.now.name denotes.length_name ≡ true }
+    requires { same_name m.now.name library.length_name ≡ true }
     ensures allowed { Allows (of_rule 12 (rule.text_12 m.now (of_values arguments.now)) []) result }
     ensures few { OnOk result (length arguments.now ≤ 1) }
 {
@@ -110,7 +113,7 @@ fn check_length(m: &Ident, arguments: &[Value]) -> Result<(), CheckError>
     }
 }
 
-// Sees that the value is a String, and that it has such a method, which takes these arguments.
+// Checks that the value is a String, and that it has such a method, which takes these arguments.
 fn check_text(
     env: &Environment,
     o: &Value,
@@ -157,12 +160,12 @@ fn text_core(alloc: Global, text: Value, arguments: Items<Value>) -> Result<Expr
     }
 }
 
-/// `o.m(..)` with a value that is no object of a class: `equals` or `length` of a String.
+/// `o.m(..)` with a value that isn't an object of a class: `equals` or `length` of a String.
 ///
 /// # Errors
-/// `Fault` of rule 11 at the value where it is an int, a boolean or `null`; of rule 10 at the method's name where it is an
-/// array, or a String without such a method; of rule 12 at the name where the method takes another number of arguments; of
-/// rule 11 at an argument that is no String. `OutOfMemory` where there is no memory left.
+/// `Fault` of rule 11 at the value where it is an int, a boolean or `null`; of rule 10 at the method's name where it is
+/// an array, or a String without such a method; of rule 12 at the name where the method takes another number of
+/// arguments; of rule 11 at an argument that isn't a String. `OutOfMemory` where memory runs out.
 pub fn text_call(
     alloc: Global,
     env: &Environment,

@@ -7,8 +7,9 @@ ghost use Rattle.java_exprs.specs.Checks.{Checks, attr_at};
 
 use crate::environment::Environment;
 use crate::fault::fault;
-use crate::typed::{Denotation, Form, Typed};
+use crate::typed::{Form, Typed};
 use core_tree::{Expr, Text, Ty};
+use java_denotes::Denotation;
 use java_names::Scope;
 use java_syntax::CheckError;
 use java_tokens::Name;
@@ -103,7 +104,7 @@ pub fn text(
     })
 }
 
-/// The text with these characters. `OutOfMemory` where there is no memory left, or too many characters for a text.
+/// The text with these characters. `OutOfMemory` where memory runs out, or too many characters for a text.
 #[tactic(auto, using(crate::proofs::NumberLemmas::code_units_bound))]
 pub fn text_of(alloc: Global, characters: &[char]) -> Result<Text, CheckError>
     ensures text { IfOk result (λ text. text ≡ characters.now) }

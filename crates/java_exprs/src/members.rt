@@ -6,44 +6,51 @@ ghost use Rattle.core_tree.specs.declared.expr.Expr.TheVariants as core;
 ghost use Rattle.core_tree.specs.declared.expr.Expr.TheViews as view;
 ghost use Rattle.java_names.specs.Lookups.{is_accessible as accessible};
 ghost use Rattle.java_exprs.specs.Attr.{of_rule, only_if, unless};
-ghost use Rattle.java_exprs.specs.Checks.{Allows, Checks};
+ghost use Rattle.java_names.specs.Refusals.{Allows};
+ghost use Rattle.java_exprs.specs.Checks.{Checks};
 ghost use Rattle.java_exprs.specs.Fields.{field_attr, field_core, field_faults, field_form};
+ghost use Rattle.java_denotes.specs.Lookups as denoted;
 ghost use Rattle.java_exprs.specs.Lookups as names;
 ghost use Rattle.java_exprs.specs.Resolved as resolved;
 ghost use Rattle.java_exprs.specs.Rules as rule;
 
 use crate::environment::Environment;
 use crate::fault::fault;
-use crate::forms::is_void;
-use crate::literal::Literal;
 use crate::receiver::Receiver;
-use crate::through::Through;
-use crate::typed::{Denotation, Form, Typed};
+use crate::typed::{Form, Typed};
 use core_tree::{Expr, Ty};
+use java_denotes::names::variable;
+use java_denotes::{Denotation, Through};
 use java_names::{FieldSymbol, Scope, is_accessible};
 use java_syntax::{CheckError, Ident};
+use primitive_operators::Scalar;
 use sqlite_items::Boxed;
 use std::alloc::Global;
 
-/// What a variable of this type denotes.
+/// What is denoted, where that is known.
 ///
 /// # Errors
-/// `OutOfMemory` where there is no memory left, and for `Void`: then the declaration's type has an unknown name, which is
+/// `OutOfMemory` where nothing is known: then the type of a variable's declaration has an unknown name, which is
 /// refused before the uses of the variable are read.
-pub fn variable(alloc: Global, ty: &Ty) -> Result<Denotation, CheckError>
-    ensures value { IfOk result (λ value. names.variable_denotes ty.now ≡ Some value) }
+pub fn known(denotes: Option<Denotation>) -> Result<Denotation, CheckError>
+    ensures value { IfOk result (λ value. denotes ≡ Some value) }
     ensures memory { IfErr result (λ e. e ≡ CheckError.OutOfMemory) }
 {
-    if is_void(ty) {
-        return Err(CheckError::OutOfMemory);
-    }
-    match ty.copy(alloc) {
-        Ok(ty) => Ok(Denotation::Value(ty)),
-        Err(_) => Err(CheckError::OutOfMemory),
+    match denotes {
+        Some(denotes) => Ok(denotes),
+        None => Err(CheckError::OutOfMemory),
     }
 }
 
-// Sees that what stands behind a class is no instance field.
+// What a variable of this type denotes.
+fn variable_value(alloc: Global, ty: &Ty) -> Result<Denotation, CheckError>
+    ensures value { IfOk result (λ value. denoted.variable_denotes ty.now ≡ Some value) }
+    ensures memory { IfErr result (λ e. e ≡ CheckError.OutOfMemory) }
+{
+    known(variable(alloc, ty)?)
+}
+
+// Checks that what stands after a class is no instance field.
 fn check_kind(through: Through, x: &Ident, field: &FieldSymbol) -> Result<(), CheckError>
     ensures { Allows (of_rule 11 (only_if (rule.is_behind_class through && is_some field.now.place) x.now.at) []) result }
 {
@@ -53,7 +60,7 @@ fn check_kind(through: Through, x: &Ident, field: &FieldSymbol) -> Result<(), Ch
     Ok(())
 }
 
-// Sees that the field isn't private to another class.
+// Checks that the field isn't private to another class.
 fn check_access(scope: &Scope, x: &Ident, field: &FieldSymbol) -> Result<(), CheckError>
     ensures { Allows (of_rule 13 (unless (accessible scope.now.class field.now.owner field.now.is_private) x.now.at) []) result }
 {
@@ -63,7 +70,7 @@ fn check_access(scope: &Scope, x: &Ident, field: &FieldSymbol) -> Result<(), Che
     Err(fault(13, x.at))
 }
 
-// Sees that there is a `this` where the field needs it.
+// Checks that there is a `this` where the field needs it.
 fn check_this(
     scope: &Scope,
     through: Through,
@@ -79,7 +86,7 @@ fn check_this(
     Ok(())
 }
 
-// Sees that the field or constant may be named there.
+// Checks that the field or constant may be named there.
 #[tactic(auto, using(crate::proofs::RulesLemmas::joins))]
 fn check_field(
     scope: &Scope,
@@ -106,18 +113,18 @@ fn form_of(x: &Ident, field: &FieldSymbol) -> Form
 }
 
 // The value of a constant.
-fn literal_core(literal: &Literal) -> Result<Expr, CheckError>
+fn literal_core(literal: &Scalar) -> Result<Expr, CheckError>
     ensures value { IfOk result (λ value. value ≡ resolved.literal_core literal.now) }
     ensures memory { IfErr result (λ e. e ≡ CheckError.OutOfMemory) }
 {
     match literal {
-        Literal::Int(n) => Ok(Expr::Int(*n)),
-        Literal::Bool(b) => Ok(Expr::Bool(*b)),
-        Literal::Text(text) => match text.share() {
+        Scalar::Int(n) => Ok(Expr::Int(*n)),
+        Scalar::Bool(b) => Ok(Expr::Bool(*b)),
+        Scalar::Text(text) => match text.share() {
             Ok(text) => Ok(Expr::Text(text)),
             Err(_) => Err(CheckError::OutOfMemory),
         },
-        Literal::Null => Ok(Expr::Null),
+        Scalar::Null => Ok(Expr::Null),
     }
 }
 
@@ -148,13 +155,13 @@ fn core_of(
     }
 }
 
-/// A field or a constant that was found in the receiver's class: checked and resolved. `object` is the resolved expression
-/// before the dot; where there is none, it is `this`.
+/// A field or a constant that was found in the receiver's class: checked and resolved. `object` is the resolved
+/// expression before the dot; where there is none, it is `this`.
 ///
 /// # Errors
-/// `Fault` at its name: of rule 11 where it is an instance field behind a class, of rule 13 where it is private to another
-/// class, and of rule 14 where it needs a `this` that isn't there. `OutOfMemory` where there is no memory left, and where the
-/// type of its declaration has an unknown name.
+/// `Fault` at its name: of rule 11 where it is an instance field named through a class, of rule 13 where it is private
+/// to another class, and of rule 14 where it needs a `this` that isn't there. `OutOfMemory` where memory runs out, and
+/// where the type of its declaration has an unknown name.
 pub fn member(
     alloc: Global,
     env: &Environment,
@@ -167,7 +174,7 @@ pub fn member(
     ensures { Checks (field_attr env.now scope.now receiver object x.now field.now) result }
 {
     check_field(scope, receiver.through, x, field)?;
-    let denotes = variable(alloc, field.ty.get())?;
+    let denotes = variable_value(alloc, field.ty.get())?;
     let core = core_of(alloc, env, object, field)?;
     Ok(Typed {
         at: receiver.at,

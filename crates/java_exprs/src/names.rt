@@ -6,39 +6,29 @@ ghost use Rattle.class_table.specs.Names.{same_name};
 ghost use Rattle.java_syntax.specs.declared.expression.Expr.TheOpen.{Expr-F};
 ghost use Rattle.java_exprs.specs.declared.typed.Form.TheVariants as form;
 ghost use Rattle.java_exprs.specs.Checks.{Checks, attr_at, clean};
-ghost use Rattle.java_exprs.specs.Denotes as denotes;
+ghost use Rattle.java_denotes.specs.Library as library;
 ghost use Rattle.java_exprs.specs.Fields.{class_attr};
-ghost use Rattle.java_exprs.specs.Lookups as names;
+ghost use Rattle.java_denotes.specs.Lookups as denoted;
 
 use crate::environment::Environment;
 use crate::fault::fault;
-use crate::members::{member, variable};
+use crate::members::{known, member};
 use crate::receiver::Receiver;
-use crate::through::Through;
-use crate::typed::{Denotation, Form, Typed};
+use crate::typed::{Form, Typed};
 use core_tree::Expr;
+use java_denotes::library::is_system;
+use java_denotes::names::local;
+use java_denotes::{Denotation, Through};
 use java_names::Scope;
 use java_syntax::{CheckError, Ident};
-use java_tokens::Name;
-use sqlite_items::at;
 use std::alloc::Global;
-
-// Whether a name is `System`.
-fn is_system(name: &Name) -> bool
-    ensures { result ≡ same_name name.now denotes.system_name }
-{
-    name.characters() == ['S', 'y', 's', 't', 'e', 'm'].as_slice()
-}
 
 // What the local with this number denotes.
 fn local_value(alloc: Global, scope: &Scope, number: u32) -> Result<Denotation, CheckError>
-    ensures value { IfOk result (λ value. names.local_denotes scope.now number ≡ Some value) }
+    ensures value { IfOk result (λ value. denoted.local_denotes scope.now number ≡ Some value) }
     ensures memory { IfErr result (λ e. e ≡ CheckError.OutOfMemory) }
 {
-    match at(scope.slots.as_slice(), number as usize) {
-        Some(ty) => variable(alloc, ty.get()),
-        None => Err(CheckError::OutOfMemory),
-    }
+    known(local(alloc, scope, number)?)
 }
 
 // The name of a class, or `System`. `Fault` of rule 10 where it is neither.
@@ -62,9 +52,9 @@ fn class_or_system(env: &Environment, x: &Ident) -> Result<Typed, CheckError>
 /// A name: of a local, else of a field or constant of the class or its superclasses, else of a class or `System`.
 ///
 /// # Errors
-/// `Fault` at the name: of rule 10 where it is unknown, of rule 13 where it is a field or constant that is private to another
-/// class, and of rule 14 where it is an instance field and there is no `this`. `OutOfMemory` where there is no memory left,
-/// and where the type of a variable's declaration has an unknown name.
+/// `Fault` at the name: of rule 10 where it is unknown, of rule 13 where it is a field or constant that is private to
+/// another class, and of rule 14 where it is an instance field and there is no `this`. `OutOfMemory` where memory runs
+/// out, and where the type of a variable's declaration has an unknown name.
 pub fn name(alloc: Global, env: &Environment, scope: &Scope, x: &Ident) -> Result<Typed, CheckError>
     ensures { Checks (attr_at env.now scope.now (Expr-F.Name x.now)) result }
 {

@@ -4,24 +4,26 @@ ghost use Rattle.std.specs.Prelude.{◌≡◌, IfOk, IfErr, OnOk, [], Some};
 ghost use Rattle.core_tree.specs.Types as of;
 ghost use Rattle.java_syntax.specs.declared.expression.Expr.TheOpen.{Expr-F};
 ghost use Rattle.java_exprs.specs.Attr.{of_rule, negated_faults};
-ghost use Rattle.java_exprs.specs.Checks.{Allows, Checks, Refuses, attr_at, clean, of_value};
-ghost use Rattle.java_exprs.specs.Denotes as denotes;
+ghost use Rattle.java_names.specs.Refusals.{Allows, Refuses};
+ghost use Rattle.java_exprs.specs.Checks.{Checks, attr_at, clean, of_value};
+ghost use Rattle.java_denotes.specs.Denotes as denotes;
 ghost use Rattle.java_exprs.specs.Resolved as resolved;
 ghost use Rattle.java_exprs.specs.Rules as rule;
 
-use crate::assignability::is_either_way;
 use crate::environment::Environment;
 use crate::fault::fault;
-use crate::forms::{is_boolean, is_int, is_null, is_object, is_string};
-use crate::typed::{Denotation, Form, Typed};
+use crate::typed::{Form, Typed};
 use crate::value::Value;
+use core_tree::forms::{is_boolean, is_int, is_null, is_object, is_string};
 use core_tree::{BinOp, Expr, Ty};
+use java_denotes::Denotation;
+use java_denotes::assignability::is_either_way;
 use java_names::Scope;
 use java_syntax::{BinaryOp, CheckError};
 use sqlite_items::Boxed;
 use std::alloc::{AllocError, Global};
 
-/// Sees that the operand is an int.
+/// Checks that the operand is an int.
 pub fn wants_int(e: &Value) -> Result<(), CheckError>
     ensures { Allows (of_rule 11 (rule.wants of.is_int (of_value e.now)) []) result }
 {
@@ -32,7 +34,7 @@ pub fn wants_int(e: &Value) -> Result<(), CheckError>
     }
 }
 
-/// Sees that the operand is a boolean.
+/// Checks that the operand is a boolean.
 pub fn wants_boolean(e: &Value) -> Result<(), CheckError>
     ensures { Allows (of_rule 11 (rule.wants of.is_boolean (of_value e.now)) []) result }
 {
@@ -43,7 +45,7 @@ pub fn wants_boolean(e: &Value) -> Result<(), CheckError>
     }
 }
 
-/// Sees that both operands are ints.
+/// Checks that both operands are ints.
 #[tactic(auto, using(crate::proofs::RulesLemmas::both_places, crate::proofs::RulesLemmas::joins))]
 pub fn want_ints(l: &Value, r: &Value) -> Result<(), CheckError>
     ensures { Allows (of_rule 11 (rule.both_11 of.is_int (of_value l.now) (of_value r.now)) []) result }
@@ -52,7 +54,7 @@ pub fn want_ints(l: &Value, r: &Value) -> Result<(), CheckError>
     wants_int(r)
 }
 
-// Sees that both operands are booleans.
+// Checks that both operands are booleans.
 #[tactic(auto, using(crate::proofs::RulesLemmas::both_places, crate::proofs::RulesLemmas::joins))]
 fn want_booleans(l: &Value, r: &Value) -> Result<(), CheckError>
     ensures { Allows (of_rule 11 (rule.both_11 of.is_boolean (of_value l.now) (of_value r.now)) []) result }
@@ -61,7 +63,7 @@ fn want_booleans(l: &Value, r: &Value) -> Result<(), CheckError>
     wants_boolean(r)
 }
 
-/// Sees that the operands are two ints or two booleans.
+/// Checks that the operands are two ints or two booleans.
 pub fn want_alike(l: &Value, r: &Value) -> Result<(), CheckError>
     ensures { Allows (of_rule 11 (rule.bitwise_11 (of_value l.now) (of_value r.now)) []) result }
 {
@@ -74,7 +76,7 @@ pub fn want_alike(l: &Value, r: &Value) -> Result<(), CheckError>
     Err(fault(11, l.at))
 }
 
-// Sees that the operands can be compared.
+// Checks that the operands can be compared.
 fn want_comparable(env: &Environment, l: &Value, r: &Value) -> Result<(), CheckError>
     ensures { Allows (of_rule 11 (rule.equality_11 env.now (of_value l.now) (of_value r.now)) (of_rule 16 (rule.equality_16 (of_value l.now) (of_value r.now)) [])) result }
 {
@@ -91,7 +93,7 @@ fn want_comparable(env: &Environment, l: &Value, r: &Value) -> Result<(), CheckE
     Ok(())
 }
 
-// Sees that the operands can be added.
+// Checks that the operands can be added.
 fn want_summands(l: &Value, r: &Value) -> Result<(), CheckError>
     ensures { Allows (of_rule 11 (rule.sum_11 (of_value l.now) (of_value r.now)) (of_rule 21 (rule.sum_21 (of_value l.now) (of_value r.now)) [])) result }
 {
@@ -104,7 +106,7 @@ fn want_summands(l: &Value, r: &Value) -> Result<(), CheckError>
     want_ints(l, r)
 }
 
-// Sees that the operands suit the operator.
+// Checks that the operands suit the operator.
 fn check_operands(
     env: &Environment,
     scope: &Scope,
@@ -149,8 +151,9 @@ fn binary_type(op: BinaryOp, l: &Ty, r: &Ty) -> Ty
     }
 }
 
-// The operator on the values of its operands; `None` of those that aren't one for their types.
-fn strict_op(op: BinaryOp) -> Option<BinOp>
+/// The operator that is applied to the values of both operands; `None` of `||` and `&&`, which may leave the second one
+/// unevaluated.
+pub fn strict_op(op: BinaryOp) -> Option<BinOp>
     ensures { result ≡ resolved.strict_op op }
 {
     match op {

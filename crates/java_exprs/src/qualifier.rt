@@ -3,16 +3,18 @@
 ghost use Rattle.std.specs.Prelude.{◌≡◌, Some, false, IfOk, IfErr, OnOk};
 ghost use Rattle.java_syntax.specs.declared.expression.Expr.TheOpen.{Expr-F};
 ghost use Rattle.java_exprs.specs.Calls as spec;
-ghost use Rattle.java_exprs.specs.Checks.{Refuses, attr_at, clean, of_values};
+ghost use Rattle.java_names.specs.Refusals.{Refuses};
+ghost use Rattle.java_exprs.specs.Checks.{attr_at, clean, of_values};
 
 use crate::environment::Environment;
 use crate::fault::fault;
-use crate::typed::{Denotation, Typed};
+use crate::typed::Typed;
 use crate::value::Value;
+use java_denotes::Denotation;
 use java_names::Scope;
 use java_syntax::{CheckError, Ident};
 
-/// What a method is called behind.
+/// What a method is called on.
 #[derive(Clone, Copy, Debug, PartialEq, Eq, Drop)]
 pub enum Qualifier {
     /// The class with this number.
@@ -23,11 +25,11 @@ pub enum Qualifier {
     Value,
 }
 
-/// What the method is called behind, where `o` stands before the dot.
+/// What the method is called on, where `o` stands before the dot.
 ///
 /// # Errors
-/// `Fault` of rule 19 at its first token where it is the number 2147483648, and of rule 10 at the method's name where it is
-/// `System`.
+/// `Fault` of rule 19 at its first token where it is the number 2147483648, and of rule 10 at the method's name where
+/// it is `System`.
 #[tactic(auto, using(crate::proofs::CallLemmas::minus_refused, crate::proofs::CallLemmas::system_refused))]
 pub fn qualifier_of(
     env: &Environment,

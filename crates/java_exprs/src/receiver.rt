@@ -1,4 +1,4 @@
-use crate::through::Through;
+use java_denotes::Through;
 
 /// Where a field or a method is looked up.
 #[derive(Clone, Copy, Debug, PartialEq, Eq, Drop)]

@@ -5,19 +5,21 @@ ghost use Rattle.core_tree.specs.Types as of;
 ghost use Rattle.core_tree.specs.declared.expr.Expr.TheViews as view;
 ghost use Rattle.java_syntax.specs.declared.expression.Expr.TheOpen.{Expr-F};
 ghost use Rattle.java_exprs.specs.Attr.{of_rule};
-ghost use Rattle.java_exprs.specs.Checks.{Allows, Checks, attr_at, clean, of_value};
+ghost use Rattle.java_names.specs.Refusals.{Allows};
+ghost use Rattle.java_exprs.specs.Checks.{Checks, attr_at, clean, of_value};
 ghost use Rattle.java_exprs.specs.Rules as rule;
 ghost use Rattle.java_exprs.specs.Denotes as denotes;
-ghost use Rattle.java_exprs.specs.Types as spec;
+ghost use Rattle.java_denotes.specs.Types as spec;
 
-use crate::assignability::{is_assignable, is_either_way};
 use crate::environment::Environment;
 use crate::fault::fault;
-use crate::forms::is_array;
 use crate::operators::{wants_boolean, wants_int};
-use crate::typed::{Denotation, Form, Typed};
+use crate::typed::{Form, Typed};
 use crate::value::Value;
+use core_tree::forms::is_array;
 use core_tree::{Expr, Ty};
+use java_denotes::Denotation;
+use java_denotes::assignability::{is_assignable, is_either_way};
 use java_names::{Scope, Symbols};
 use java_syntax::CheckError;
 use sqlite_items::Boxed;
@@ -47,9 +49,9 @@ pub fn paren(env: &Environment, scope: &Scope, at: u32, e: Value) -> Result<Type
     })
 }
 
-// Sees that the value is an array.
+// Checks that the value is an array.
 fn wants_array(e: &Value) -> Result<(), CheckError>
-    ensures { Allows (of_rule 11 (rule.wants rule.is_array (of_value e.now)) []) result }
+    ensures { Allows (of_rule 11 (rule.wants of.is_array (of_value e.now)) []) result }
 {
     if is_array(&e.ty) {
         Ok(())
@@ -58,10 +60,10 @@ fn wants_array(e: &Value) -> Result<(), CheckError>
     }
 }
 
-// Sees that the values are an array and an index.
+// Checks that the values are an array and an index.
 #[tactic(auto, using(crate::proofs::RulesLemmas::both_places, crate::proofs::RulesLemmas::joins))]
 fn check_element(a: &Value, i: &Value) -> Result<(), CheckError>
-    ensures { Allows (of_rule 11 (rule.wants rule.is_array (of_value a.now) ++ rule.wants of.is_int (of_value i.now)) []) result }
+    ensures { Allows (of_rule 11 (rule.wants of.is_array (of_value a.now) ++ rule.wants of.is_int (of_value i.now)) []) result }
 {
     wants_array(a)?;
     wants_int(i)
@@ -78,8 +80,8 @@ fn element_core(alloc: Global, a: Expr, i: Expr) -> Result<Expr, AllocError>
 /// `a[i]`
 ///
 /// # Errors
-/// `Fault` of rule 11 at the first token of `a` where that is no array, and of `i` where that is no int. `OutOfMemory` where
-/// there is no memory left.
+/// `Fault` of rule 11 at the first token of `a` where that isn't an array, and of `i` where that is no int.
+/// `OutOfMemory` where memory runs out.
 pub fn element(
     alloc: Global,
     env: &Environment,
@@ -103,7 +105,7 @@ pub fn element(
     }
 }
 
-// Sees that the condition is a boolean, and that one of the other operands can be assigned to the other's type.
+// Checks that the condition is a boolean, and that one of the other operands can be assigned to the other's type.
 #[tactic(auto, using(crate::proofs::RulesLemmas::both_places, crate::proofs::RulesLemmas::joins))]
 fn check_conditional(env: &Environment, c: &Value, a: &Value, b: &Value) -> Result<(), CheckError>
     ensures { Allows (of_rule 11 (rule.choice_11 env.now (of_value c.now) (of_value a.now) (of_value b.now)) []) result }
@@ -134,8 +136,8 @@ fn conditional_core(alloc: Global, c: Expr, a: Expr, b: Expr) -> Result<Expr, Al
 /// `c ? a : b`
 ///
 /// # Errors
-/// `Fault` of rule 11 at the first token of `c` where that is no boolean, and of `b` where neither the type of `a` can be
-/// assigned to that of `b` nor the other way round. `OutOfMemory` where there is no memory left.
+/// `Fault` of rule 11 at the first token of `c` where that isn't a boolean, and of `b` where neither the type of `a`
+/// can be assigned to that of `b` nor the other way round. `OutOfMemory` where memory runs out.
 pub fn conditional(
     alloc: Global,
     env: &Environment,

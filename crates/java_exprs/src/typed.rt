@@ -1,28 +1,5 @@
-use core_tree::{Expr, Ty};
-
-/// What an expression denotes (JLS 6.5, 15.1).
-#[derive(Drop)]
-pub enum Denotation {
-    /// A value of this type.
-    Value(Ty),
-    /// Nothing: a call of a method without a result.
-    Nothing,
-    /// The class with this number, before a dot.
-    Class(u32),
-    /// `System`
-    System,
-    /// `System.out`
-    Output,
-    /// A print, which is a statement. Its argument is the resolved expression.
-    Print(Printing),
-}
-
-/// A print: whether a line feed follows, and whether it has an argument.
-#[derive(Clone, Copy, Debug, PartialEq, Eq, Drop)]
-pub struct Printing {
-    pub ends_line: bool,
-    pub has_argument: bool,
-}
+use core_tree::Expr;
+use java_denotes::Denotation;
 
 /// Which form an expression has, where a statement or an operator asks for one.
 #[derive(Clone, Copy, Debug, PartialEq, Eq, Drop)]
@@ -43,7 +20,7 @@ pub struct Typed {
     pub at: u32,
     pub denotes: Denotation,
     pub form: Form,
-    /// Whether it is the number 2147483648, which only stands behind a minus (JLS 3.10.1).
+    /// Whether it is the number 2147483648, which only stands after a minus (JLS 3.10.1).
     pub needs_minus: bool,
     /// The resolved expression. Where it denotes no value and isn't called, it means nothing.
     pub core: Expr,

@@ -4,24 +4,26 @@ ghost use Rattle.std.specs.Prelude.{◌≡◌, IfOk, IfErr, [], Some};
 ghost use Rattle.java_syntax.specs.declared.expression.Expr.TheOpen.{Expr-F};
 ghost use Rattle.java_syntax.specs.declared.operator.UnaryOp.TheVariants as op;
 ghost use Rattle.java_exprs.specs.Attr.{negated_faults, of_rule};
-ghost use Rattle.java_exprs.specs.Checks.{Allows, Checks, Refuses, attr_at, clean, of_value};
-ghost use Rattle.java_exprs.specs.Denotes as denotes;
+ghost use Rattle.java_names.specs.Refusals.{Allows, Refuses};
+ghost use Rattle.java_exprs.specs.Checks.{Checks, attr_at, clean, of_value};
+ghost use Rattle.java_denotes.specs.Denotes as denotes;
 ghost use Rattle.java_exprs.specs.Resolved as resolved;
 ghost use Rattle.java_exprs.specs.Rules as rule;
 
 use crate::environment::Environment;
 use crate::fault::fault;
 use crate::operators::{wants_boolean, wants_int};
-use crate::typed::{Denotation, Form, Typed};
+use crate::typed::{Form, Typed};
 use crate::value::Value;
 use core_tree::{Expr, Ty, UnOp};
+use java_denotes::Denotation;
 use java_names::Scope;
 use java_syntax::{CheckError, UnaryOp};
 use sqlite_items::Boxed;
 use std::alloc::Global;
 
-// The resolved operator.
-fn un_op(op: UnaryOp) -> UnOp
+/// The resolved operator.
+pub fn un_op(op: UnaryOp) -> UnOp
     ensures { result ≡ resolved.un_op op }
 {
     match op {
@@ -32,7 +34,7 @@ fn un_op(op: UnaryOp) -> UnOp
     }
 }
 
-// Sees that the operand suits the operator.
+// Checks that the operand suits the operator.
 fn check_operand(op: UnaryOp, e: &Value) -> Result<(), CheckError>
     ensures { Allows (of_rule 11 (rule.unary_11 op (of_value e.now)) []) result }
 {

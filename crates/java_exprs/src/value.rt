@@ -2,11 +2,13 @@
 
 ghost use Rattle.std.specs.Prelude.{◌≡◌, IfOk, IfErr};
 ghost use Rattle.java_exprs.specs.Attr.{value_faults};
-ghost use Rattle.java_exprs.specs.Checks.{Refuses, clean, of_value};
+ghost use Rattle.java_names.specs.Refusals.{Refuses};
+ghost use Rattle.java_exprs.specs.Checks.{clean, of_value};
 
 use crate::fault::fault;
-use crate::typed::{Denotation, Form, Typed};
+use crate::typed::{Form, Typed};
 use core_tree::{Expr, Ty};
+use java_denotes::Denotation;
 use java_syntax::CheckError;
 
 /// What is known of an expression that breaks no rule and has a value.
@@ -24,8 +26,8 @@ impl Typed {
     /// The expression as a value.
     ///
     /// # Errors
-    /// `Fault` of rule 10 where it is a class or the library, of rule 11 where it is a call without a result, and of rule 19
-    /// where it is the number 2147483648; each at its first token.
+    /// `Fault` of rule 10 where it is a class or the library, of rule 11 where it is a call without a result, and of
+    /// rule 19 where it is the number 2147483648; each at its first token.
     pub fn value(self) -> Result<Value, CheckError>
         ensures value { IfOk result (λ v. clean self ≡ of_value v) }
         ensures fault { IfErr result (Refuses (value_faults (clean self))) }

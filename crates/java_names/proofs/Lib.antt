@@ -1,3 +1,5 @@
 pub mod NumberingLemmas
 pub mod ScopeLemmas
 pub mod ChosenLemmas
+pub mod BeginningLemmas
+pub mod RefusalLemmas

@@ -1,10 +1,7 @@
--- Which classes are built in, and what that asks.
-use Rattle.std.specs.Prelude.{ℕ, Bool, false, not, List, [], ◌∷◌, Option, Some, None, nat_lt, if◌then◌else◌}
+-- What it asks that a class is built in.
+use Rattle.std.specs.Prelude.{ℕ, Bool, false, not, List, [], ◌∷◌, Option, Some, None, if◌then◌else◌}
+use Rattle.core_tree.specs.BuiltIn.{is_built_in}
 use Rattle.class_table.specs.declared.row.MakerRow.{MakerRow}
-
--- the classes with these numbers are built in
-abbrev pub is_built_in : ℕ → Bool
-is_built_in c = nat_lt c 18
 
 -- class c is one of the file, and declares no constructor
 abbrev pub needs_maker : ℕ → List MakerRow → Bool

@@ -19,8 +19,8 @@ first_picked selector (m ∷ more) = option_or (picked selector m) (first_picked
 abbrev pub methods_at : Symbols → ℕ → List MethodSymbol
 methods_at s c = option_map_or (λ class. class.methods.symbols) (class_at s c) []
 
--- the method that a selector picks in class c: that of the nearest class on its line that declares an instance method with
--- this selector
+-- the method that a selector picks in class c: that of the nearest class on its line that declares an instance method
+-- with this selector
 abbrev pub chosen_method : Symbols → ℕ → ℕ → Option ℕ
 chosen_method s c selector = nearest (λ d. first_picked selector (methods_at s d)) (line_of s c)
 

@@ -7,3 +7,5 @@ pub mod Symbols
 pub mod Lookups
 pub mod Chosen
 pub mod Scope
+pub mod Beginnings
+pub mod Refusals

@@ -26,6 +26,10 @@ line_of s c = option_map_or (λ class. class.line) (class_at s c) []
 abbrev pub is_below : Symbols → ℕ → ℕ → Bool
 is_below s c d = list_any (λ a. a == d) (line_of s c)
 
+-- the superclass of a class; none of Object alone
+abbrev pub parent_of : Symbols → ℕ → Option ℕ
+parent_of s c = option_and_then (λ class. class.parent) (class_at s c)
+
 -- what the first class of a line that has such a thing has
 abbrev pub nearest : {X : Type 0} → (ℕ → Option X) → List ℕ → Option X
 nearest at [] = None
@@ -53,8 +57,8 @@ method_in class key = option_and_then (λ n. slice_get class.methods.symbols n) 
 abbrev pub method_at : Symbols → Selector → ℕ → Option MethodSymbol
 method_at s key c = option_and_then (λ class. method_in class key) (class_at s c)
 
--- the method of that name and number of parameters in class c, its own or inherited: the nearest one, which may be static
--- or private
+-- the method of that name and number of parameters in class c, its own or inherited: the nearest one, which may be
+-- static or private
 abbrev pub method_of : Symbols → ℕ → Selector → Option MethodSymbol
 method_of s c key = nearest (method_at s key) (line_of s c)
 

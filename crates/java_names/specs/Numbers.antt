@@ -2,13 +2,14 @@
 use Rattle.std.specs.Prelude.{ℕ, ◌+◌, List, [], ◌∷◌, length, if◌then◌else◌}
 use Rattle.class_table.specs.declared.row.ClassRow.{ClassRow}
 use Rattle.java_names.specs.declared.numbers.Numbers.{Numbers}
-use Rattle.java_names.specs.BuiltIn.{is_built_in, needs_maker}
+use Rattle.core_tree.specs.BuiltIn.{is_built_in}
+use Rattle.java_names.specs.BuiltIn.{needs_maker}
 
 -- how many constructors are made for class number c
 abbrev pub made_for : ℕ → ClassRow → ℕ
 made_for c row = if needs_maker c row.makers then 1 else 0
 
--- the numbers that come next behind class number c, where they are `numbers` before it
+-- the numbers that come next after class number c, where they are `numbers` before it
 abbrev pub numbers_after : ℕ → Numbers → ClassRow → Numbers
 numbers_after c numbers row =
     if is_built_in c then numbers

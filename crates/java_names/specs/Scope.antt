@@ -2,6 +2,9 @@
 use Rattle.std.specs.Prelude.{ℕ, Bool, [], ◌∷◌, ◌++◌, length, take, Option, Some, None}
 use Rattle.std.specs.Map.{lookup}
 use Rattle.core_tree.specs.declared.ty.Ty.{Ty}
+use Rattle.core_tree.specs.declared.ty.Ty.TheVariants as ty
+use Rattle.java_syntax.specs.declared.class.MethodTree.{MethodTree}
+use Rattle.class_table.specs.Members.{is_static}
 use Rattle.class_table.specs.Names.{Name, same_name}
 use Rattle.java_names.specs.declared.symbol.FieldSymbol.{FieldSymbol}
 use Rattle.java_names.specs.declared.symbol.Symbols.{Symbols}
@@ -10,6 +13,7 @@ use Rattle.java_names.specs.declared.scope.Mark.{Mark}
 use Rattle.java_names.specs.declared.scope.Meaning.{Meaning}
 use Rattle.java_names.specs.declared.scope.Meaning.TheVariants as meaning
 use Rattle.java_names.specs.Lookups.{class_number, field_of}
+use Rattle.java_names.specs.Types.{answer_type}
 
 -- the number of the local of that name in scope
 abbrev pub local_of : Scope → Name → Option ℕ
@@ -19,7 +23,19 @@ local_of scope name = lookup (same_name name) scope.locals
 abbrev pub first_scope : ℕ → Bool → Ty → Scope
 first_scope class is_static answer = record { class = class; is_static = is_static; answer = answer; in_loop = Bool.false; locals = []; slots = [] }
 
--- the scope behind a declaration: the local gets the next number, and numbers are never used again
+-- the scope of a method's body, before its parameters
+abbrev pub method_scope : Symbols → ℕ → MethodTree → Scope
+method_scope s c m = first_scope c (is_static m.mods) (answer_type s.names m.answer)
+
+-- the scope of a constructor's body, before its parameters, and of an instance field's initialiser
+abbrev pub maker_scope : ℕ → Scope
+maker_scope c = first_scope c Bool.false ty.Void
+
+-- the scope of a constant's initialiser
+abbrev pub constant_scope : ℕ → Scope
+constant_scope c = first_scope c Bool.true ty.Void
+
+-- the scope after a declaration: the local gets the next number, and numbers are never used again
 unfoldable pub declared : Scope → Name → Ty → Scope
 declared scope name t = record scope { locals = scope.locals ++ (name, length scope.slots) ∷ []; slots = scope.slots ++ t ∷ [] }
 
@@ -27,11 +43,11 @@ declared scope name t = record scope { locals = scope.locals ++ (name, length sc
 abbrev pub mark_of : Scope → Mark
 mark_of scope = record { locals = length scope.locals; in_loop = scope.in_loop }
 
--- the scope behind a block that began at that place: its locals are gone
+-- the scope after a block that began at that place: its locals are gone
 unfoldable pub back_at : Mark → Scope → Scope
 back_at mark scope = record scope { locals = take mark.locals scope.locals; in_loop = mark.in_loop }
 
--- the scope behind a block that began in the scope `outer`
+-- the scope after a block that began in the scope `outer`
 abbrev pub left : Scope → Scope → Scope
 left outer scope = back_at (mark_of outer) scope
 

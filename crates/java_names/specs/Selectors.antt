@@ -19,13 +19,14 @@ selector_of m = record { name = m.name; arity = length m.params }
 abbrev pub message_selector : Selector
 message_selector = record { name = codes "getMessage"; arity = 0 }
 
--- the selectors with that of a method, which is a further one where it isn't static and no method before it is called so
+-- the selectors with that of a method, which is a further one where it isn't static and no method before it is called
+-- so
 abbrev pub with_selector : List Selector → MethodRow → List Selector
 with_selector selectors m =
     if is_static m.mods || list_any (same_selector (selector_of m)) selectors then selectors else selectors ++ selector_of m ∷ []
 
--- the selectors by their numbers: `getMessage` without parameters first, then the further ones of the instance methods of
--- the classes, in the order of their first declaration
+-- the selectors by their numbers: `getMessage` without parameters first, then the further ones of the instance methods
+-- of the classes, in the order of their first declaration
 abbrev pub selectors_of : List ClassRow → List Selector
 selectors_of rows = fold with_selector (message_selector ∷ []) (flat_map (λ row. row.methods) rows)
 

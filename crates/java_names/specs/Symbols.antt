@@ -23,11 +23,11 @@ use Rattle.java_names.specs.Numbers.{numbers_after, first_numbers}
 use Rattle.java_names.specs.Types.{declared_type, declared_types, answer_type}
 use Rattle.java_names.specs.Selectors.{selector_of, selectors_of, selector_number}
 
--- the known classes behind `throws`
+-- the known classes after `throws`
 abbrev pub thrown : List Name → List Name → List ℕ
 thrown names throws = filter_map (number_of names) throws
 
--- the number behind this one; none where there are no numbers
+-- the number after this one; none where there are no numbers
 abbrev pub following : Option ℕ → Option ℕ
 following number = option_map (λ n. n + 1) number
 
@@ -41,7 +41,7 @@ abbrev pub field_symbol : List Name → FieldRow → FieldSymbol
 field_symbol names f =
     record { owner = f.owner; name = f.name; ty = declared_type names f.ty; place = f.place; is_private = is_private f.mods; at = f.at }
 
--- fields, with some more behind them
+-- fields, with some more after them
 abbrev pub with_fields : List Name → Fields → List FieldRow → Fields
 with_fields names fields rows =
     record { symbols = fields.symbols ++ map (field_symbol names) rows; names = fields.names ++ map (λ f. f.name) rows }

@@ -1,14 +1,14 @@
 -- The types that are spelled in a file.
 use Rattle.std.specs.Prelude.{ℕ, Bool, zero, suc, List, [], ◌∷◌, codes, map, Option, Some, option_map, if◌then◌else◌, is_none}
 use Rattle.std.specs.Option.{option_map_or, unwrap_or}
-use Rattle.java_syntax.specs.declared.name.BaseType.{BaseType}
-use Rattle.java_syntax.specs.declared.name.BaseType.TheVariants.{Int, Boolean, Class}
-use Rattle.java_syntax.specs.declared.name.TypeTree.{TypeTree}
+use Rattle.token_reading.specs.declared.name.BaseType.{BaseType}
+use Rattle.token_reading.specs.declared.name.BaseType.TheVariants.{Int, Boolean, Class}
+use Rattle.token_reading.specs.declared.name.TypeTree.{TypeTree}
 use Rattle.core_tree.specs.declared.ty.Ty.{Ty}
 use Rattle.core_tree.specs.declared.ty.Ty.TheVariants as ty
 use Rattle.class_table.specs.Names.{Name, same_name, number_of}
 
--- the type of arrays with so many pairs of brackets
+-- the type of arrays with that many pairs of brackets
 abbrev pub arrays : ℕ → Ty → Ty
 arrays zero t = t
 arrays (suc n) t = ty.Array (arrays n t)
@@ -53,6 +53,10 @@ declared_type names tree = unwrap_or (type_of names tree) ty.Void
 
 abbrev pub declared_types : List Name → List TypeTree → List Ty
 declared_types names trees = map (declared_type names) trees
+
+-- the type of what a catch clause of this class takes; `Void` where the name is unknown, which breaks rule 10
+abbrev pub exception_type : List Name → Name → Ty
+exception_type names name = option_map_or ty.Class (number_of names name) ty.Void
 
 -- the type of a result
 abbrev pub answer_type : List Name → Option TypeTree → Ty

@@ -1,18 +1,17 @@
 //! Which classes are built in, and what that asks.
 
 ghost use Rattle.std.specs.Prelude.{◌≡◌};
+ghost use Rattle.core_tree.specs.BuiltIn.{is_built_in};
 ghost use Rattle.java_names.specs.BuiltIn as spec;
 
 use class_table::MakerRow;
-
-/// How many classes are built in.
-const BUILT_IN: u32 = 18;
+use core_tree::FIRST_CLASS;
 
 /// Whether class number `class` is built in.
 pub fn is_built_in(class: u32) -> bool
-    ensures { result ≡ spec.is_built_in class }
+    ensures { result ≡ is_built_in class }
 {
-    class < BUILT_IN
+    class < FIRST_CLASS
 }
 
 /// Whether class number `class` is one of the file, and declares no constructor.

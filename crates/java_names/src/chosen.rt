@@ -67,9 +67,9 @@ impl Symbols {
         }
     }
 
-    /// The numbers of the methods that the selectors pick in class number `class`, by the numbers of the selectors: at each
-    /// the nearest instance method of the file that the class declares or inherits; `None` where there is none, as for
-    /// `getMessage` where no class of the file declares it (JLS 15.12.4.4). `AllocError` where there is no memory left.
+    /// The numbers of the methods that the selectors pick in class number `class`, by the numbers of the selectors: at
+    /// each the nearest instance method of the file that the class declares or inherits; `None` where there is none, as
+    /// for `getMessage` where no class of the file declares it (JLS 15.12.4.4). `AllocError` where memory runs out.
     pub fn chosen(&self, alloc: Global, class: u32) -> Result<Items<Option<u32>>, AllocError>
         ensures { IfOk result (λ picks. picks ≡ spec.chosen_of self.now class) }
     {

@@ -97,7 +97,7 @@ fn names_of(alloc: Global, rows: &[ClassRow]) -> Result<Numbering<Name>, AllocEr
 }
 
 /// The symbols of a class table: what its classes declare, with numbers and resolved types (JLS 6.1, 8.2). `AllocError`
-/// where there is no memory left, or where more than 2^32 - 1 things of one kind are declared.
+/// where memory runs out, or where more than 2^32 - 1 things of one kind are declared.
 pub fn symbols(alloc: Global, table: &ClassTable) -> Result<Symbols, AllocError>
     ensures { IfOk result (λ symbols. symbols ≡ spec.symbols_of table.now) }
 {

@@ -62,7 +62,7 @@ fn add_own(
     Ok(())
 }
 
-/// The fields that class number `class` declares itself. `AllocError` where there is no memory left, or no number.
+/// The fields that class number `class` declares itself. `AllocError` where memory runs out, or no number.
 pub fn fields(
     alloc: Global,
     names: &Numbering<Name>,

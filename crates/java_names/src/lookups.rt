@@ -50,7 +50,8 @@ impl ClassSymbol {
 }
 
 impl Symbols {
-    /// The number of the class of that name, counted from 0; `None` where no class has it (JLS 6.3). It takes no memory.
+    /// The number of the class of that name, counted from 0; `None` where no class has it (JLS 6.3). It takes no
+    /// memory.
     pub fn class_number(&self, name: &Name) -> Option<u32>
         ensures { result ≡ spec.class_number self.now name.now }
     {
@@ -62,6 +63,17 @@ impl Symbols {
         ensures { option_copied result ≡ spec.class_at self.now class }
     {
         at(self.classes.as_slice(), class as usize)
+    }
+
+    /// The number of the superclass of class number `class`; `None` of `Object`, and where there is no such class (JLS
+    /// 8.1.4).
+    pub fn superclass(&self, class: u32) -> Option<u32>
+        ensures { result ≡ spec.parent_of self.now class }
+    {
+        match self.class(class) {
+            Some(symbol) => symbol.parent,
+            None => None,
+        }
     }
 
     /// The numbers of a class, its superclass, and so on to `Object`; none where there is no such class (JLS 8.1.4).
@@ -104,8 +116,8 @@ impl Symbols {
         None
     }
 
-    /// The field or constant of that name in class number `class`, its own or an inherited one, the nearest; `None` where it
-    /// has none (JLS 8.2, 8.3). It may be private to another class.
+    /// The field or constant of that name in class number `class`, its own or an inherited one, the nearest; `None`
+    /// where it has none (JLS 8.2, 8.3). It may be private to another class.
     pub fn field(&self, class: u32, name: &Name) -> Option<&FieldSymbol>
         ensures { option_copied result ≡ spec.field_of self.now class name.now }
     {
@@ -135,8 +147,8 @@ impl Symbols {
         None
     }
 
-    /// The method of that name and number of parameters in class number `class`, its own or one of its superclasses', the
-    /// nearest; `None` where there is none (JLS 15.12.2). It may be static, and private to another class.
+    /// The method of that name and number of parameters in class number `class`, its own or one of its superclasses',
+    /// the nearest; `None` where there is none (JLS 15.12.2). It may be static, and private to another class.
     pub fn method(&self, class: u32, selector: &Selector) -> Option<&MethodSymbol>
         ensures { option_copied result ≡ spec.method_of self.now class selector.now }
     {
@@ -163,8 +175,8 @@ impl Symbols {
             .any(|class| self.declares_method(name, *class))
     }
 
-    /// The constructor of class number `class` with that number of parameters, written or made; `None` where it has none
-    /// (JLS 8.8). It may be private to another class.
+    /// The constructor of class number `class` with that number of parameters, written or made; `None` where it has
+    /// none (JLS 8.8). It may be private to another class.
     pub fn maker(&self, class: u32, arity: usize) -> Option<&MakerSymbol>
         ensures { option_copied result ≡ spec.maker_of self.now class arity }
     {

@@ -64,8 +64,8 @@ fn arities(alloc: Global, rows: &[MakerRow]) -> Result<Numbering<usize>, AllocEr
     Ok(keys)
 }
 
-/// The constructors that class number `owner` declares itself, numbered on from `number`. `AllocError` where there is no
-/// memory left, or no number.
+/// The constructors that class number `owner` declares itself, numbered on from `number`. `AllocError` where there is
+/// no memory left, or no number.
 pub fn written_makers(
     alloc: Global,
     names: &Numbering<Name>,

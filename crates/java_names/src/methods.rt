@@ -14,7 +14,7 @@ use java_tokens::Name;
 use sqlite_items::Items;
 use std::alloc::{AllocError, Global};
 
-/// The numbers of the known classes behind `throws`.
+/// The numbers of the known classes after `throws`.
 pub fn thrown(
     alloc: Global,
     names: &Numbering<Name>,
@@ -31,7 +31,7 @@ pub fn thrown(
     Ok(classes)
 }
 
-/// The number behind this one; `None` where there are no numbers. `AllocError` where there is no further number.
+/// The number after this one; `None` where there are no numbers. `AllocError` where there is no further number.
 pub fn following(number: Option<u32>) -> Result<Option<u32>, AllocError>
     ensures { IfOk result (λ next. next ≡ spec.following number) }
 {
@@ -109,8 +109,8 @@ fn method_symbols(
     Ok(symbols)
 }
 
-/// The methods that class number `owner` declares itself, numbered on from `number`. `AllocError` where there is no memory
-/// left, or no number.
+/// The methods that class number `owner` declares itself, numbered on from `number`. `AllocError` where there is no
+/// memory left, or no number.
 pub fn methods(
     alloc: Global,
     names: &Numbering<Name>,

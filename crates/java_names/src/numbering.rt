@@ -50,7 +50,7 @@ impl<K: Eq + Hash + Drop> Numbering<K> {
         self.keys.len()
     }
 
-    /// Adds a key, given with a copy of it. `AllocError` where there is no memory left, or no number; then the keys are as
+    /// Adds a key, given with a copy of it. `AllocError` where memory runs out, or no number; then the keys are as
     /// before.
     pub fn push(&mut self, key: K, copy: K) -> Result<(), AllocError>
         requires same { copy ≡ key }

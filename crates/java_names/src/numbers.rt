@@ -1,6 +1,6 @@
 //! The numbers of methods and constructors.
 
-ghost use Rattle.std.specs.Prelude.{◌≡◌, ◌+◌, IfOk};
+ghost use Rattle.std.specs.Prelude.{◌≡◌, ◌+◌, IfOk, suc};
 ghost use Rattle.java_names.specs.Numbers as spec;
 
 use crate::built_in::{is_built_in, needs_maker};
@@ -29,6 +29,13 @@ pub fn sum(number: u32, count: usize) -> Result<u32, AllocError>
     Ok(number + count as u32)
 }
 
+/// The number after this one. `AllocError` where there is none.
+pub fn following(number: u32) -> Result<u32, AllocError>
+    ensures { IfOk result (λ next. next ≡ suc number) }
+{
+    sum(number, 1)
+}
+
 /// How many constructors are made for class number `class`.
 fn made_for(class: u32, row: &ClassRow) -> usize
     ensures { result ≡ spec.made_for class row.now }
@@ -40,8 +47,8 @@ fn made_for(class: u32, row: &ClassRow) -> usize
     }
 }
 
-/// The numbers that come next behind class number `class`, where they are `numbers` before it. `AllocError` where there is
-/// no further number.
+/// The numbers that come next after class number `class`, where they are `numbers` before it. `AllocError` where there
+/// is no further number.
 pub fn numbers_after(class: u32, numbers: Numbers, row: &ClassRow) -> Result<Numbers, AllocError>
     ensures { IfOk result (λ next. next ≡ spec.numbers_after class numbers row.now) }
 {

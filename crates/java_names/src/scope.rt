@@ -6,15 +6,15 @@ ghost use Rattle.class_table.specs.Names.{same_name};
 ghost use Rattle.java_names.specs.Scope as spec;
 
 use crate::symbol::{FieldSymbol, Symbols};
-use class_table::Shared;
-use core_tree::Ty;
+use core_tree::{Shared, Ty};
 use indexmap::IndexMap;
 use java_tokens::Name;
 use sqlite_items::Items;
 use std::alloc::{AllocError, Global};
 use std::marker::Model;
 
-/// The locals in scope, the outermost first, each with its number. Contracts see a list of pairs of a name and a number.
+/// The locals in scope, the outermost first, each with its number. Contracts see a list of pairs of a name and a
+/// number.
 #[derive(Drop)]
 pub struct Locals {
     numbers: IndexMap<Name, u32>,
@@ -135,8 +135,8 @@ impl Scope {
         self.locals.find(name)
     }
 
-    /// Declares a local of a name that no local in scope has, and gives its number: that of the locals that were declared
-    /// before (JLS 14.4). `AllocError` where there is no memory left, or no number; then the scope serves no more.
+    /// Declares a local of a name that no local in scope has, and gives its number: that of the locals that were
+    /// declared before (JLS 14.4). `AllocError` where memory runs out, or no number; then the scope serves no more.
     #[tactic(auto, unfolding(crate::specs::Scope::declared))]
     pub fn declare(&mut self, name: Name, ty: Shared<Ty>) -> Result<u32, AllocError>
         requires fresh { spec.local_of self.old name ≡ None }
@@ -153,7 +153,7 @@ impl Scope {
         Ok(number)
     }
 
-    /// Where a block begins, to come back to behind it.
+    /// Where a block begins, to come back to after it.
     pub fn mark(&self) -> Mark
         ensures { result ≡ spec.mark_of self.now }
     {

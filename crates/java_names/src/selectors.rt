@@ -22,7 +22,7 @@ fn message_selector(alloc: Global) -> Result<Selector, AllocError>
 }
 
 impl Selector {
-    /// What methods of this name and number of parameters are called by. `AllocError` where there is no memory left.
+    /// What methods of this name and number of parameters are called by. `AllocError` where memory runs out.
     pub fn new(name: &Name, arity: usize) -> Result<Selector, AllocError>
         ensures { IfOk result (λ s. s ≡ record { name = name.now; arity = arity }) }
     {
@@ -64,7 +64,7 @@ fn add_all(selectors: &mut Numbering<Selector>, methods: &[MethodRow]) -> Result
     Ok(())
 }
 
-/// The selectors of a program by their numbers. `AllocError` where there is no memory left, or no number.
+/// The selectors of a program by their numbers. `AllocError` where memory runs out, or no number.
 pub fn selectors(alloc: Global, rows: &[ClassRow]) -> Result<Numbering<Selector>, AllocError>
     ensures { IfOk result (λ selectors. selectors ≡ spec.selectors_of rows.now) }
 {

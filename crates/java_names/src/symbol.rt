@@ -1,8 +1,7 @@
 //! What a file declares, with numbers and resolved types.
 
 use crate::numbering::Numbering;
-use class_table::Shared;
-use core_tree::Ty;
+use core_tree::{Shared, Ty};
 use java_tokens::Name;
 use sqlite_items::Items;
 
@@ -40,7 +39,7 @@ pub struct MethodSymbol {
     pub params: Items<Shared<Ty>>,
     /// The type of its result; `Void` where it has none.
     pub answer: Shared<Ty>,
-    /// The numbers of the known classes behind `throws`, in order.
+    /// The numbers of the known classes after `throws`, in order.
     pub throws: Items<u32>,
     pub is_static: bool,
     pub is_private: bool,
@@ -60,7 +59,7 @@ pub struct MakerSymbol {
     pub owner: u32,
     /// The types of its parameters in order; `Void` where one has an unknown name.
     pub params: Items<Shared<Ty>>,
-    /// The numbers of the known classes behind `throws`, in order.
+    /// The numbers of the known classes after `throws`, in order.
     pub throws: Items<u32>,
     pub is_private: bool,
     /// Whether it is made for a class without a constructor (JLS 8.8.9).
@@ -116,7 +115,7 @@ pub struct Symbols {
     pub names: Numbering<Name>,
     /// The classes by their numbers: the built-in ones, then those of the file in text order.
     pub classes: Items<ClassSymbol>,
-    /// The selectors by their numbers: `getMessage` without parameters, then the further ones of the instance methods in
-    /// the order of their first declaration.
+    /// The selectors by their numbers: `getMessage` without parameters, then the further ones of the instance methods
+    /// in the order of their first declaration.
     pub selectors: Numbering<Selector>,
 }

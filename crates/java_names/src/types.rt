@@ -3,11 +3,10 @@
 ghost use Rattle.std.specs.Prelude.{◌≡◌, [], ◌∷◌, IfOk, IfErr, OnOk, Some};
 ghost use Rattle.class_table.specs.Faults.{Blames, OfRule};
 ghost use Rattle.java_names.specs.Types as spec;
-ghost use Rattle.java_syntax.specs.declared.fault.Fault.{Fault};
+ghost use Rattle.token_reading.specs.declared.fault.Fault.{Fault};
 
 use crate::numbering::Numbering;
-use class_table::Shared;
-use core_tree::Ty;
+use core_tree::{Shared, Ty};
 use java_syntax::{BaseType, CheckError, Fault, TypeTree};
 use java_tokens::Name;
 use sqlite_items::{Boxed, Items};
@@ -48,8 +47,8 @@ fn base_type(names: &Numbering<Name>, base: &BaseType) -> Option<Ty>
 /// dropped by recursion, so without a limit the stack would be wanting.
 const MAX_DIMENSIONS: u32 = 255;
 
-/// The type of arrays with so many pairs of brackets behind this type (JLS 10.1). `AllocError` where there is no memory
-/// left, or where there are more than 255.
+/// The type of arrays with that many pairs of brackets after this type (JLS 10.1). `AllocError` where there is no
+/// memory left, or where there are more than 255.
 pub fn arrays(alloc: Global, ty: Ty, dimensions: u32) -> Result<Ty, AllocError>
     ensures { IfOk result (λ t. t ≡ spec.arrays dimensions ty) }
 {
@@ -64,7 +63,7 @@ pub fn arrays(alloc: Global, ty: Ty, dimensions: u32) -> Result<Ty, AllocError>
 }
 
 /// The type that is spelled, where the classes have these names; `None` where its name is unknown (JLS 4.2, 4.3).
-/// `AllocError` where there is no memory left, or where it has more than 255 pairs of brackets.
+/// `AllocError` where memory runs out, or where it has more than 255 pairs of brackets.
 pub fn type_of(
     alloc: Global,
     names: &Numbering<Name>,
@@ -107,7 +106,7 @@ pub fn resolve_base(names: &Numbering<Name>, base: &BaseType) -> Result<Ty, Chec
 /// The type that is spelled, where the classes have these names (JLS 4.2, 4.3).
 ///
 /// # Errors
-/// `Fault` of rule 10 at the name, where that is unknown. `OutOfMemory` where there is no memory left, or where the type has
+/// `Fault` of rule 10 at the name, where that is unknown. `OutOfMemory` where memory runs out, or where the type has
 /// more than 255 pairs of brackets.
 pub fn resolve_type(
     alloc: Global,
@@ -161,6 +160,20 @@ pub fn answer_type(
 {
     match answer {
         Some(tree) => declared_type(alloc, names, tree),
+        None => Shared::new(alloc, Ty::Void),
+    }
+}
+
+/// The type of what a catch clause takes whose class has this name; `Void` where that is unknown (JLS 14.20).
+pub fn exception_type(
+    alloc: Global,
+    names: &Numbering<Name>,
+    name: &Name,
+) -> Result<Shared<Ty>, AllocError>
+    ensures { IfOk result (λ t. t ≡ spec.exception_type names.now name.now) }
+{
+    match names.number(name) {
+        Some(class) => Shared::new(alloc, Ty::Class(class)),
         None => Shared::new(alloc, Ty::Void),
     }
 }

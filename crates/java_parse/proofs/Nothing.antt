@@ -1,19 +1,10 @@
 -- Nothing has height 0.
-use Rattle.std.proofs.Common.{◌≡◌, ℕ, zero, suc, List, [], ◌∷◌, Bool, refl}
-use Rattle.java_syntax.specs.Lexeme.{Lexeme}
-use Rattle.java_reading.specs.ReadExpr.{none_read}
-use Rattle.java_reading.specs.ReadStmt.{none_fits, unended, statement}
+use Rattle.std.proofs.Common.{◌≡◌, ℕ, zero, suc, List, Bool}
+use Rattle.token_reading.specs.Lexeme.{Lexeme}
+use Rattle.token_reading.specs.Reads.{Fails, refusal_at}
+use Rattle.token_reading.proofs.Nothing.{no_part}
+use Rattle.java_reading.specs.ReadStmt.{unended, statement}
 use Rattle.java_reading.specs.ReadClass.{member, class}
-use Rattle.java_parse.specs.Reads.{Fails, refusal_at}
-
-pub no_expression : (xs : List Lexeme) → Fails (none_read xs) (refusal_at xs)
-no_expression [] = refl
-no_expression (x ∷ xs) = refl
-
-no_part : (A : Type 0) (xs : List Lexeme) → Fails (none_fits {A = A} xs) (refusal_at xs)
-unfolding none_fits
-no_part A [] = refl
-no_part A (x ∷ xs) = refl
 
 pub no_unended : (n : ℕ) (declares : Bool) (xs : List Lexeme) → n ≡ 0 → Fails (unended n declares xs) (refusal_at xs)
 unfolding unended

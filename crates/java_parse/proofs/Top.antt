@@ -2,13 +2,14 @@
 use Rattle.std.proofs.Common.{◌≡◌, ℕ, ◌≤◌, ◌<◌, nat_lt, List, length, Bool, true, false, Ok, Err, refl}
 use Rattle.java_tokens.specs.declared.token.Token.{Token}
 use Rattle.java_syntax.specs.declared.class.FileTree.{FileTree}
-use Rattle.java_syntax.specs.Lexeme.{Lexeme, numbered}
+use Rattle.token_reading.specs.Lexeme.{Lexeme, numbered}
 use Rattle.java_syntax.specs.Height.{file_height}
-use Rattle.java_syntax.specs.Spells.{places_of, Spells}
-use Rattle.java_reading.specs.Outcome.{no_tree, too_high}
+use Rattle.java_syntax.specs.Spells.{Spells}
+use Rattle.token_reading.specs.Places.{places_of}
+use Rattle.token_reading.specs.Outcome.{no_tree, too_high}
 use Rattle.java_reading.specs.ReadClass.{file}
 use Rattle.java_reading.proofs.FileWhole.{one_file, gives_files, refuses_files, refuses_high_files, file_height_is_least}
-use Rattle.java_reading.proofs.Tests.{from_below, from_not_below}
+use Rattle.token_reading.proofs.Tests.{from_below, from_not_below}
 use Rattle.java_parse.specs.Answer.{IsOnlyTree, SpellsNothing, SpellsHighOnes}
 
 pub spelled : (tokens : List Token) (t : FileTree) (rest : List Lexeme) → file 200 (numbered 0 tokens) ≡ Ok (t.classes, rest)

@@ -4,8 +4,8 @@ use Rattle.java_tokens.specs.declared.token.Token.{Token}
 use Rattle.java_syntax.specs.declared.class.FileTree.{FileTree}
 use Rattle.java_syntax.specs.Height.{file_height}
 use Rattle.java_syntax.specs.Spells.{Spells}
-use Rattle.java_parse.specs.declared.error.ParseError.{ParseError}
-use Rattle.java_parse.specs.declared.error.ParseError.TheVariants as errors
+use Rattle.token_reading.specs.declared.error.ParseError.{ParseError}
+use Rattle.token_reading.specs.declared.error.ParseError.TheVariants as errors
 
 -- Each tree that spells the tokens, of whatever height, is this one.
 abbrev pub IsOnlyTree : FileTree → List Token → Type 0

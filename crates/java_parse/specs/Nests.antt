@@ -3,11 +3,11 @@ use Rattle.std.specs.Prelude.{ℕ, ◌≤◌, Bool, List, Result, IfOk}
 use Rattle.std.specs.declared.alloc.Global.{Global}
 use denote.Ref.{MutBor}
 use Rattle.java_syntax.specs.declared.statement.Stmt.{Stmt}
-use Rattle.java_syntax.specs.Lexeme.{Lexeme}
+use Rattle.token_reading.specs.Lexeme.{Lexeme}
 use Rattle.java_reading.specs.ReadExpr.{Tall, reading}
 use Rattle.java_reading.specs.ReadStmt.{statement}
-use Rattle.java_parse.specs.declared.refusal.Refusal.{Refusal}
-use Rattle.java_parse.specs.Reads.{Reads}
+use Rattle.token_reading.specs.declared.refusal.Refusal.{Refusal}
+use Rattle.token_reading.specs.Reads.{Reads}
 
 -- It may be called for expressions of at most this height, and reads what the reading function does.
 pub record Nests (height : ℕ) (pre : Global → MutBor (List Lexeme) → ℕ → ℕ → Type 0)

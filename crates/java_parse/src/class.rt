@@ -7,15 +7,14 @@
 
 ghost use Rattle.std.specs.Prelude.{◌≡◌, ◌≤◌, [], length};
 ghost use Rattle.java_reading.specs.ReadClass as spec;
-ghost use Rattle.java_parse.specs.Reads.{Reads};
+ghost use Rattle.token_reading.specs.Reads.{Reads};
 
 use crate::member::member;
-use crate::refusal::Refusal;
-use crate::tokens::Tokens;
-use java_syntax::{ClassTree, Ident, Member};
+use java_syntax::{ClassTree, Member};
 use java_tokens::{Keyword, Operator, TokenKind};
 use sqlite_items::Items;
 use std::alloc::Global;
+use token_reading::{Ident, Refusal, Tokens};
 
 /// The superclass, or nothing (JLS 8.1.4).
 #[tactic(auto, unfolding(java_reading::specs::ReadClass::extends))]
@@ -103,7 +102,7 @@ fn classes(alloc: Global, tokens: &mut Tokens<'_>, most: u32) -> Result<Items<Cl
     Err(Refusal::NoTree)
 }
 
-/// The classes of a file of at most this height, behind which nothing stands (JLS 7.3).
+/// The classes of a file of at most this height, after which nothing stands (JLS 7.3).
 #[tactic(auto, unfolding(java_reading::specs::ReadClass::file))]
 pub fn file(alloc: Global, tokens: &mut Tokens<'_>, most: u32) -> Result<Items<ClassTree>, Refusal>
     requires { most ≤ 200 }

@@ -8,17 +8,17 @@
 ghost use Rattle.std.specs.Prelude.{◌≡◌, ◌≤◌, ◌<◌, [], length};
 ghost use Rattle.java_reading.specs.ReadStmt as spec;
 ghost use Rattle.java_parse.specs.Nests.{NestsStatements};
-ghost use Rattle.java_parse.specs.Reads.{Reads};
+ghost use Rattle.token_reading.specs.Reads.{Reads};
 
-use crate::refusal::Refusal;
+use crate::lookahead::is_local;
 use crate::simple::unended;
 use crate::statement_nodes as nodes;
 use crate::statements::Statements;
-use crate::tokens::Tokens;
 use java_syntax::{CatchTree, Stmt};
 use java_tokens::{Keyword, Operator};
 use sqlite_items::Items;
 use std::alloc::Global;
+use token_reading::{Refusal, Tokens};
 
 impl<F: Fn(Global, &mut Tokens<'_>, u32, bool) -> Result<Stmt, Refusal>> Statements<F> {
     /// Further simple statements, and the token that closes the list.
@@ -63,7 +63,7 @@ impl<F: Fn(Global, &mut Tokens<'_>, u32, bool) -> Result<Stmt, Refusal>> Stateme
         ensures { let n = self.now.parts in
             Reads (spec.start (spec.value n) (spec.arguments n) (spec.unended n) (spec.statement n) tokens.old) result tokens.new }
     {
-        if !tokens.is_local() {
+        if !is_local(tokens) {
             return self.simples(tokens, Operator::Semicolon);
         }
         let tree = unended(self.alloc, tokens, self.parts, true)?;
@@ -71,7 +71,7 @@ impl<F: Fn(Global, &mut Tokens<'_>, u32, bool) -> Result<Stmt, Refusal>> Stateme
         Ok(nodes::one(self.alloc, tree)?)
     }
 
-    /// What stands behind `for` (JLS 14.14.1).
+    /// What stands after `for` (JLS 14.14.1).
     #[tactic(auto, unfolding(java_reading::specs::ReadStmt::for_stmt))]
     pub fn for_stmt(&self, tokens: &mut Tokens<'_>) -> Result<Stmt, Refusal>
         requires part { NestsStatements self.now.parts (F.pre self.now.read) (F.post self.now.read) }
@@ -87,7 +87,7 @@ impl<F: Fn(Global, &mut Tokens<'_>, u32, bool) -> Result<Stmt, Refusal>> Stateme
         Ok(nodes::for_node(self.alloc, start, condition, update, body)?)
     }
 
-    /// What stands behind `catch` (JLS 14.20).
+    /// What stands after `catch` (JLS 14.20).
     #[tactic(auto, unfolding(java_reading::specs::ReadStmt::catch))]
     fn catch(&self, tokens: &mut Tokens<'_>) -> Result<CatchTree, Refusal>
         requires part { NestsStatements self.now.parts (F.pre self.now.read) (F.post self.now.read) }
@@ -140,7 +140,7 @@ impl<F: Fn(Global, &mut Tokens<'_>, u32, bool) -> Result<Stmt, Refusal>> Stateme
         }
     }
 
-    /// What stands behind `try` (JLS 14.20).
+    /// What stands after `try` (JLS 14.20).
     #[tactic(auto, unfolding(java_reading::specs::ReadStmt::try_stmt))]
     pub fn try_stmt(&self, tokens: &mut Tokens<'_>) -> Result<Stmt, Refusal>
         requires part { NestsStatements self.now.parts (F.pre self.now.read) (F.post self.now.read) }

@@ -1,4 +1,4 @@
-//! What goes on behind an operand: precedence climbing (Richards and Whitby-Strevens, 1979), with one loop for all
+//! What goes on after an operand: precedence climbing (Richards and Whitby-Strevens, 1979), with one loop for all
 //! operators and suffixes.
 //!
 //! ```text
@@ -11,23 +11,22 @@
 //! Each turn makes the tree higher, so its height is tested before the turn: a chain as long as the file is refused at
 //! the limit, and isn't built first.
 
-ghost use Rattle.std.specs.Prelude.{◌≡◌, ◌≤◌, ◌<◌, ◌+◌, IfOk};
+ghost use Rattle.std.specs.Prelude.{◌≡◌, ◌≤◌, ◌<◌, ◌+◌, suc, IfOk};
 ghost use Rattle.java_reading.specs.ReadExpr as spec;
 ghost use Rattle.java_parse.specs.Nests.{Nests};
-ghost use Rattle.java_parse.specs.Reads.{Reads};
+ghost use Rattle.token_reading.specs.Reads.{Reads};
 
 use crate::grammar::{Grammar, Tall};
 use crate::infix::{binary_level, binds, first_infix};
 use crate::nodes;
-use crate::refusal::Refusal;
-use crate::tokens::Tokens;
 use java_reading::Infix;
 use java_syntax::BinaryOp;
 use java_tokens::Operator;
 use std::alloc::Global;
+use token_reading::{Refusal, Tokens};
 
 impl<F: Fn(Global, &mut Tokens<'_>, u32, u8) -> Result<Tall, Refusal>> Grammar<F> {
-    /// What stands behind an operand and a `.` (JLS 15.11, 15.12).
+    /// What stands after an operand and a `.` (JLS 15.11, 15.12).
     #[tactic(auto, unfolding(java_reading::specs::ReadExpr::member))]
     fn member(&self, tokens: &mut Tokens<'_>, left: Tall) -> Result<Tall, Refusal>
         requires part { Nests self.now.parts (F.pre self.now.read) (F.post self.now.read) }
@@ -47,7 +46,7 @@ impl<F: Fn(Global, &mut Tokens<'_>, u32, u8) -> Result<Tall, Refusal>> Grammar<F
         }
     }
 
-    /// What stands behind an operand and a `[` (JLS 15.10.3).
+    /// What stands after an operand and a `[` (JLS 15.10.3).
     #[tactic(auto, unfolding(java_reading::specs::ReadExpr::element))]
     fn element(&self, tokens: &mut Tokens<'_>, left: Tall) -> Result<Tall, Refusal>
         requires part { Nests self.now.parts (F.pre self.now.read) (F.post self.now.read) }
@@ -63,7 +62,7 @@ impl<F: Fn(Global, &mut Tokens<'_>, u32, u8) -> Result<Tall, Refusal>> Grammar<F
         Ok((tree, height.max(index_height) + 1))
     }
 
-    /// What stands behind an operand and a `?` (JLS 15.25).
+    /// What stands after an operand and a `?` (JLS 15.25).
     #[tactic(auto, unfolding(java_reading::specs::ReadExpr::conditional))]
     fn conditional(&self, tokens: &mut Tokens<'_>, left: Tall) -> Result<Tall, Refusal>
         requires part { Nests self.now.parts (F.pre self.now.read) (F.post self.now.read) }
@@ -80,24 +79,25 @@ impl<F: Fn(Global, &mut Tokens<'_>, u32, u8) -> Result<Tall, Refusal>> Grammar<F
         Ok((tree, height.max(then_height.max(other_height)) + 1))
     }
 
-    /// What stands behind an operand and `instanceof` (JLS 15.20.2).
+    /// What stands after an operand and `instanceof` (JLS 15.20.2).
     #[tactic(auto, unfolding(java_reading::specs::ReadExpr::instance_of))]
     fn instance_of(&self, tokens: &mut Tokens<'_>, left: Tall) -> Result<Tall, Refusal>
         requires part { Nests self.now.parts (F.pre self.now.read) (F.post self.now.read) }
         requires low { self.now.parts < 200 }
         requires operand { left.1 ≤ self.now.parts }
-        ensures reads { Reads (spec.instance_of (spec.reading self.now.parts) left tokens.old) result tokens.new }
+        ensures reads { Reads (spec.instance_of self.now.parts (spec.reading self.now.parts) left tokens.old) result tokens.new }
         ensures low { IfOk result (λ t. t.1 ≤ self.now.parts + 1) }
     {
         let (operand, height) = left;
-        let ty = tokens.type_tree()?;
+        let ty = tokens.type_tree(self.parts)?;
         if binds(first_infix(tokens)) > 8 {
             return Err(Refusal::NoTree);
         }
-        Ok((nodes::instance_of(self.alloc, operand, ty)?, height + 1))
+        let height = ty.height().max(height) + 1;
+        Ok((nodes::instance_of(self.alloc, operand, ty)?, height))
     }
 
-    /// What stands behind an operand and an operator between two (JLS 15.17 to 15.24).
+    /// What stands after an operand and an operator between two (JLS 15.17 to 15.24).
     #[tactic(auto, unfolding(java_reading::specs::ReadExpr::operated))]
     fn operated(&self, tokens: &mut Tokens<'_>, left: Tall, op: BinaryOp) -> Result<Tall, Refusal>
         requires part { Nests self.now.parts (F.pre self.now.read) (F.post self.now.read) }
@@ -112,12 +112,12 @@ impl<F: Fn(Global, &mut Tokens<'_>, u32, u8) -> Result<Tall, Refusal>> Grammar<F
         Ok((tree, height.max(right_height) + 1))
     }
 
-    /// What stands behind an operand and this token.
+    /// What stands after an operand and this token.
     fn behind(&self, tokens: &mut Tokens<'_>, left: Tall, token: Infix) -> Result<Tall, Refusal>
         requires part { Nests self.now.parts (F.pre self.now.read) (F.post self.now.read) }
         requires low { self.now.parts < 200 }
         requires operand { left.1 ≤ self.now.parts }
-        ensures reads { Reads (spec.behind (spec.reading self.now.parts) left token tokens.old) result tokens.new }
+        ensures reads { Reads (spec.behind self.now.parts (spec.reading self.now.parts) left token tokens.old) result tokens.new }
         ensures low { IfOk result (λ t. t.1 ≤ self.now.parts + 1) }
     {
         match token {
@@ -136,7 +136,7 @@ impl<F: Fn(Global, &mut Tokens<'_>, u32, u8) -> Result<Tall, Refusal>> Grammar<F
         requires part { Nests self.now.parts (F.pre self.now.read) (F.post self.now.read) }
         requires low { self.now.parts < 200 }
         requires operand { left.1 ≤ self.now.parts + 1 }
-        ensures reads { Reads (spec.climb (spec.reading self.now.parts) least (self.now.parts + 1) (self.now.parts + 1) left tokens.old) result tokens.new }
+        ensures reads { Reads (spec.climb self.now.parts (spec.reading self.now.parts) least (suc self.now.parts) left tokens.old) result tokens.new }
         ensures low { IfOk result (λ t. t.1 ≤ self.now.parts + 1) }
     {
         let most = self.parts + 1;
@@ -163,7 +163,7 @@ impl<F: Fn(Global, &mut Tokens<'_>, u32, u8) -> Result<Tall, Refusal>> Grammar<F
     pub fn precedence(&self, tokens: &mut Tokens<'_>, least: u8) -> Result<Tall, Refusal>
         requires part { Nests self.now.parts (F.pre self.now.read) (F.post self.now.read) }
         requires low { self.now.parts < 200 }
-        ensures reads { Reads (spec.precedence (spec.reading self.now.parts) (self.now.parts + 1) least tokens.old) result tokens.new }
+        ensures reads { Reads (spec.precedence self.now.parts (spec.reading self.now.parts) least tokens.old) result tokens.new }
         ensures low { IfOk result (λ t. t.1 ≤ self.now.parts + 1) }
     {
         let first = self.prefix(tokens, least)?;

@@ -4,13 +4,10 @@ ghost use Rattle.java_syntax.specs.Spells.{Spells};
 ghost use Rattle.java_parse.specs.Answer.{IsOnlyTree, HasCause};
 
 use crate::class::file;
-use crate::error::ParseError;
-use crate::places::places;
-use crate::refusal::Refusal;
-use crate::tokens::Tokens;
 use java_syntax::FileTree;
 use java_tokens::Token;
 use std::alloc::Global;
+use token_reading::{ParseError, Refusal, Tokens, places};
 
 /// The height that a tree may have, in nodes.
 const MAX_HEIGHT: u32 = 200;

@@ -3,13 +3,12 @@
 ghost use Rattle.std.specs.Prelude.{◌≡◌, ◌≤◌, ◌<◌, ◌+◌, IfOk};
 ghost use Rattle.java_reading.specs.ReadExpr as spec;
 ghost use Rattle.java_parse.specs.Nests.{Nests};
-ghost use Rattle.java_parse.specs.Reads.{Reads};
+ghost use Rattle.token_reading.specs.Reads.{Reads};
 
-use crate::refusal::Refusal;
-use crate::tokens::Tokens;
 use java_syntax::Expr;
 use sqlite_items::Items;
 use std::alloc::Global;
+use token_reading::{Refusal, Tokens};
 
 /// An expression and its height.
 pub type Tall = (Expr, u32);

@@ -1,21 +1,19 @@
-//! What stands before the body of a member: modifiers, parameters and exceptions (JLS 8.3, 8.4, 8.8).
+//! What stands before the body of a member beside its parameters: modifiers and exceptions (JLS 8.3, 8.4, 8.8).
 //!
 //! ```text
 //! Mods   = { "public" | "protected" | "private" | "static" | "final" }
-//! Params = Type Ident { "," Type Ident }
 //! Throws = "throws" Ident { "," Ident }
 //! ```
 
 ghost use Rattle.std.specs.Prelude.{◌≡◌, [], length};
 ghost use Rattle.java_reading.specs.ReadClass as spec;
-ghost use Rattle.java_parse.specs.Reads.{Reads};
+ghost use Rattle.token_reading.specs.Reads.{Reads};
 
-use crate::refusal::Refusal;
-use crate::tokens::Tokens;
-use java_syntax::{Ident, Modifier, ParamTree};
+use java_syntax::Modifier;
 use java_tokens::{Keyword, Operator, TokenKind};
 use sqlite_items::Items;
 use std::alloc::Global;
+use token_reading::{Ident, ParamTree, Refusal, Tokens};
 
 fn modifier_keyword(word: Keyword) -> Option<Modifier>
     ensures { result ≡ spec.modifier_keyword word }
@@ -59,46 +57,7 @@ pub fn modifiers(alloc: Global, tokens: &mut Tokens<'_>) -> Result<Items<Modifie
     }
 }
 
-/// A parameter (JLS 8.4.1).
-#[tactic(auto, unfolding(java_reading::specs::ReadClass::param))]
-fn param(tokens: &mut Tokens<'_>) -> Result<ParamTree, Refusal>
-    ensures { Reads (spec.param tokens.old) result tokens.new }
-{
-    let ty = tokens.type_tree()?;
-    let name = tokens.ident()?;
-    Ok(ParamTree { ty, name })
-}
-
-/// Further parameters and the closing parenthesis.
-#[tactic(auto, unfolding(java_reading::specs::ReadClass::more_params))]
-fn more_params(alloc: Global, tokens: &mut Tokens<'_>) -> Result<Items<ParamTree>, Refusal>
-    ensures { Reads (spec.more_params (length tokens.old) [] tokens.old) result tokens.new }
-{
-    let mut found = Items::new(alloc);
-    for _turn in 0..tokens.left() {
-        let next = param(tokens)?;
-        found.push(next)?;
-        if !tokens.eat(Operator::Comma) {
-            tokens.expect(Operator::RightParen)?;
-            return Ok(found);
-        }
-    }
-    Err(Refusal::NoTree)
-}
-
-/// The parameters in their parentheses.
-#[tactic(auto, unfolding(java_reading::specs::ReadClass::params))]
-pub fn params(alloc: Global, tokens: &mut Tokens<'_>) -> Result<Items<ParamTree>, Refusal>
-    ensures { Reads (spec.params tokens.old) result tokens.new }
-{
-    tokens.expect(Operator::LeftParen)?;
-    if tokens.eat(Operator::RightParen) {
-        return Ok(Items::new(alloc));
-    }
-    more_params(alloc, tokens)
-}
-
-/// Names with commas between them, at most so many.
+/// Names with commas between them, at most that many.
 #[tactic(auto, unfolding(java_reading::specs::ReadClass::names))]
 fn names(alloc: Global, tokens: &mut Tokens<'_>, most: usize) -> Result<Items<Ident>, Refusal>
     ensures { Reads (spec.names most [] tokens.old) result tokens.new }

@@ -1,13 +1,13 @@
-//! What a token does behind an operand, and how tightly it binds (JLS 15).
+//! What a token does after an operand, and how tightly it binds (JLS 15).
 
 ghost use Rattle.std.specs.Prelude.{◌≡◌, ◌≤◌};
 ghost use Rattle.java_syntax.specs.Exprs as grammar;
 ghost use Rattle.java_reading.specs.ReadExpr as spec;
 
-use crate::tokens::Tokens;
 use java_reading::Infix;
 use java_syntax::{BinaryOp, UnaryOp};
 use java_tokens::{Keyword, Operator, TokenKind};
+use token_reading::Tokens;
 
 /// The level of precedence of what the operator makes, from 2 for `||` to 11 for products.
 pub fn binary_level(op: BinaryOp) -> u8
@@ -84,7 +84,7 @@ pub fn binds(token: Infix) -> u8
     }
 }
 
-/// What the next token does behind an operand.
+/// What the next token does after an operand.
 pub fn first_infix(tokens: &Tokens<'_>) -> Infix
     ensures { result ≡ spec.first_infix tokens.now }
 {

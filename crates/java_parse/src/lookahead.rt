@@ -3,13 +3,12 @@
 //! A cast begins with `(`, a type, `)` and a token that can begin its operand. A declaration begins with `int` or
 //! `boolean`, two names, or a name and a pair of brackets.
 
-ghost use Rattle.std.specs.Prelude.{◌≡◌, ◌&&◌};
-ghost use Rattle.java_syntax.specs.Lexeme as grammar;
+ghost use Rattle.std.specs.Prelude.{◌≡◌};
 ghost use Rattle.java_syntax.specs.Exprs as spec;
-ghost use Rattle.java_reading.specs.ReadType.{next, declares, is_local};
+ghost use Rattle.java_reading.specs.Lookahead.{declares, is_local};
 
-use crate::tokens::Tokens;
 use java_tokens::{Keyword, Operator, TokenKind};
+use token_reading::Tokens;
 
 fn begins_plain_operator(sign: Operator) -> bool
     ensures { result ≡ spec.begins_plain_operator sign }
@@ -60,76 +59,55 @@ fn begins_type(kind: &TokenKind) -> bool
     }
 }
 
-impl Tokens<'_> {
-    /// Whether `[` and `]` come next.
-    fn sees_brackets(&self) -> bool
-        ensures { result ≡ (grammar.sees Operator.LeftBracket self.now && grammar.sees Operator.RightBracket (next self.now)) }
-    {
-        let mut ahead = self.fork();
-        ahead.eat(Operator::LeftBracket) && ahead.sees(Operator::RightBracket)
+/// Whether a `)` and a token with which a cast's operand can begin come next.
+fn closes_cast(tokens: &Tokens<'_>) -> bool
+    ensures { result ≡ spec.closes_cast tokens.now }
+{
+    let mut ahead = tokens.fork();
+    if !ahead.eat(Operator::RightParen) {
+        return false;
     }
-
-    /// Goes behind all pairs of brackets that come next.
-    #[tactic(auto, using(crate::proofs::Pairs::past_pair, crate::proofs::Pairs::past_none, crate::proofs::Pairs::pair_shorter))]
-    fn skip_brackets(&mut self)
-        ensures { self.new ≡ spec.past_brackets self.old }
-    {
-        while self.sees_brackets() {
-            self.skip();
-            self.skip();
-        }
+    match ahead.peek() {
+        Some(kind) => begins_plain(kind),
+        None => false,
     }
+}
 
-    /// Whether a `)` and a token with which a cast's operand can begin come next.
-    fn closes_cast(&self) -> bool
-        ensures { result ≡ spec.closes_cast self.now }
-    {
-        let mut ahead = self.fork();
-        if !ahead.eat(Operator::RightParen) {
-            return false;
-        }
-        match ahead.peek() {
-            Some(kind) => begins_plain(kind),
-            None => false,
-        }
+/// Whether what stands after a `(` makes it the beginning of a cast (JLS 15.16).
+pub fn casts(tokens: &Tokens<'_>) -> bool
+    ensures { result ≡ spec.casts tokens.now }
+{
+    let Some(kind) = tokens.peek() else {
+        return false;
+    };
+    let mut ahead = tokens.fork();
+    ahead.skip();
+    ahead.skip_brackets();
+    begins_type(kind) && closes_cast(&ahead)
+}
+
+/// Whether a name before it would be the type of a declaration: another name or a pair of brackets comes next.
+fn declares(tokens: &Tokens<'_>) -> bool
+    ensures { result ≡ declares tokens.now }
+{
+    let mut ahead = tokens.fork();
+    ahead.skip();
+    match tokens.peek() {
+        Some(TokenKind::Ident(_)) => true,
+        Some(TokenKind::Op(Operator::LeftBracket)) => ahead.sees(Operator::RightBracket),
+        _ => false,
     }
+}
 
-    /// Whether what stands behind a `(` makes it the beginning of a cast (JLS 15.16).
-    pub fn casts(&self) -> bool
-        ensures { result ≡ spec.casts self.now }
-    {
-        let Some(kind) = self.peek() else {
-            return false;
-        };
-        let mut ahead = self.fork();
-        ahead.skip();
-        ahead.skip_brackets();
-        begins_type(kind) && ahead.closes_cast()
-    }
-
-    /// Whether a name before it would be the type of a declaration: another name or a pair of brackets comes next.
-    fn declares(&self) -> bool
-        ensures { result ≡ declares self.now }
-    {
-        let mut ahead = self.fork();
-        ahead.skip();
-        match self.peek() {
-            Some(TokenKind::Ident(_)) => true,
-            Some(TokenKind::Op(Operator::LeftBracket)) => ahead.sees(Operator::RightBracket),
-            _ => false,
-        }
-    }
-
-    /// Whether a declaration comes next, and no expression.
-    pub fn is_local(&self) -> bool
-        ensures { result ≡ is_local self.now }
-    {
-        let mut ahead = self.fork();
-        ahead.skip();
-        match self.peek() {
-            Some(TokenKind::Ident(_)) => ahead.declares(),
-            Some(TokenKind::Word(word)) => begins_type_keyword(*word),
-            _ => false,
-        }
+/// Whether a declaration comes next, and no expression.
+pub fn is_local(tokens: &Tokens<'_>) -> bool
+    ensures { result ≡ is_local tokens.now }
+{
+    let mut ahead = tokens.fork();
+    ahead.skip();
+    match tokens.peek() {
+        Some(TokenKind::Ident(_)) => declares(&ahead),
+        Some(TokenKind::Word(word)) => begins_type_keyword(*word),
+        _ => false,
     }
 }

@@ -10,18 +10,17 @@
 ghost use Rattle.std.specs.Prelude.{◌≡◌, ◌≤◌, ◌<◌};
 ghost use Rattle.java_reading.specs.ReadClass as spec;
 ghost use Rattle.java_reading.specs.ReadStmt as spec_statement;
-ghost use Rattle.java_parse.specs.Reads.{Reads};
+ghost use Rattle.token_reading.specs.Reads.{Reads};
 
-use crate::header::{modifiers, params, throws};
-use crate::refusal::Refusal;
+use crate::header::{modifiers, throws};
 use crate::simple::initial;
 use crate::statements::body;
-use crate::tokens::Tokens;
-use java_syntax::{FieldTree, Ident, MakerTree, Member, MethodTree, Mods, TypeTree};
+use java_syntax::{FieldTree, MakerTree, Member, MethodTree, Mods};
 use java_tokens::{Keyword, Operator};
 use std::alloc::Global;
+use token_reading::{Ident, Refusal, Tokens, TypeTree};
 
-/// What stands behind the name of a constructor (JLS 8.8).
+/// What stands after the name of a constructor (JLS 8.8).
 #[tactic(auto, unfolding(java_reading::specs::ReadClass::maker))]
 fn maker(
     alloc: Global,
@@ -31,9 +30,9 @@ fn maker(
     name: Ident,
 ) -> Result<MakerTree, Refusal>
     requires { most < 200 }
-    ensures { Reads (spec.maker (spec_statement.value most) (spec_statement.body most) mods name tokens.old) result tokens.new }
+    ensures { Reads (spec.maker most (spec_statement.value most) (spec_statement.body most) mods name tokens.old) result tokens.new }
 {
-    let params = params(alloc, tokens)?;
+    let params = tokens.params(alloc, most)?;
     let throws = throws(alloc, tokens)?;
     tokens.expect(Operator::LeftBrace)?;
     let body = body(alloc, tokens, most)?;
@@ -67,7 +66,7 @@ fn with_answer(answer: Option<TypeTree>, tree: MakerTree) -> MethodTree
     }
 }
 
-/// What stands behind the name of a method (JLS 8.4).
+/// What stands after the name of a method (JLS 8.4).
 #[tactic(auto, unfolding(java_reading::specs::ReadClass::method))]
 fn method(
     alloc: Global,
@@ -78,13 +77,13 @@ fn method(
     name: Ident,
 ) -> Result<Member, Refusal>
     requires { most < 200 }
-    ensures { Reads (spec.method (spec_statement.value most) (spec_statement.body most) mods answer name tokens.old) result tokens.new }
+    ensures { Reads (spec.method most (spec_statement.value most) (spec_statement.body most) mods answer name tokens.old) result tokens.new }
 {
     let tree = maker(alloc, tokens, most, mods, name)?;
     Ok(Member::Method(with_answer(answer, tree)))
 }
 
-/// What stands behind the name of a field (JLS 8.3).
+/// What stands after the name of a field (JLS 8.3).
 #[tactic(auto, unfolding(java_reading::specs::ReadClass::field))]
 fn field(
     alloc: Global,
@@ -95,7 +94,7 @@ fn field(
     name: Ident,
 ) -> Result<Member, Refusal>
     requires { most < 200 }
-    ensures { Reads (spec.field (spec_statement.value most) (spec_statement.body most) mods ty name tokens.old) result tokens.new }
+    ensures { Reads (spec.field most (spec_statement.value most) (spec_statement.body most) mods ty name tokens.old) result tokens.new }
 {
     let value = initial(alloc, tokens, most)?;
     tokens.expect(Operator::Semicolon)?;
@@ -107,7 +106,7 @@ fn field(
     }))
 }
 
-/// What stands behind modifiers and `void`.
+/// What stands after modifiers and `void`.
 #[tactic(auto, unfolding(java_reading::specs::ReadClass::void_method))]
 fn void_method(
     alloc: Global,
@@ -116,13 +115,13 @@ fn void_method(
     mods: Mods,
 ) -> Result<Member, Refusal>
     requires { most < 200 }
-    ensures { Reads (spec.void_method (spec_statement.value most) (spec_statement.body most) mods tokens.old) result tokens.new }
+    ensures { Reads (spec.void_method most (spec_statement.value most) (spec_statement.body most) mods tokens.old) result tokens.new }
 {
     let name = tokens.ident()?;
     method(alloc, tokens, most, mods, None, name)
 }
 
-/// What stands behind the modifiers of a constructor.
+/// What stands after the modifiers of a constructor.
 #[tactic(auto, unfolding(java_reading::specs::ReadClass::constructor))]
 fn constructor(
     alloc: Global,
@@ -131,19 +130,19 @@ fn constructor(
     mods: Mods,
 ) -> Result<Member, Refusal>
     requires { most < 200 }
-    ensures { Reads (spec.constructor (spec_statement.value most) (spec_statement.body most) mods tokens.old) result tokens.new }
+    ensures { Reads (spec.constructor most (spec_statement.value most) (spec_statement.body most) mods tokens.old) result tokens.new }
 {
     let name = tokens.ident()?;
     Ok(Member::Maker(maker(alloc, tokens, most, mods, name)?))
 }
 
-/// What stands behind the modifiers of a field, or of a method with a result.
+/// What stands after the modifiers of a field, or of a method with a result.
 #[tactic(auto, unfolding(java_reading::specs::ReadClass::typed))]
 fn typed(alloc: Global, tokens: &mut Tokens<'_>, most: u32, mods: Mods) -> Result<Member, Refusal>
     requires { most < 200 }
-    ensures { Reads (spec.typed (spec_statement.value most) (spec_statement.body most) mods tokens.old) result tokens.new }
+    ensures { Reads (spec.typed most (spec_statement.value most) (spec_statement.body most) mods tokens.old) result tokens.new }
 {
-    let ty = tokens.type_tree()?;
+    let ty = tokens.type_tree(most)?;
     let name = tokens.ident()?;
     if tokens.sees(Operator::LeftParen) {
         method(alloc, tokens, most, mods, Some(ty), name)
@@ -161,7 +160,7 @@ fn is_maker(tokens: &Tokens<'_>) -> bool
     tokens.sees_name() && behind.sees(Operator::LeftParen)
 }
 
-/// What stands behind modifiers.
+/// What stands after modifiers.
 #[tactic(auto, unfolding(java_reading::specs::ReadClass::declared))]
 fn declared(
     alloc: Global,
@@ -170,7 +169,7 @@ fn declared(
     mods: Mods,
 ) -> Result<Member, Refusal>
     requires { most < 200 }
-    ensures { Reads (spec.declared (spec_statement.value most) (spec_statement.body most) mods tokens.old) result tokens.new }
+    ensures { Reads (spec.declared most (spec_statement.value most) (spec_statement.body most) mods tokens.old) result tokens.new }
 {
     if tokens.eat_word(Keyword::Void) {
         return void_method(alloc, tokens, most, mods);
@@ -186,7 +185,7 @@ fn declared(
 #[tactic(auto, unfolding(java_reading::specs::ReadClass::member_node))]
 fn member_node(alloc: Global, tokens: &mut Tokens<'_>, most: u32) -> Result<Member, Refusal>
     requires { most < 200 }
-    ensures { Reads (spec.member_node (spec_statement.value most) (spec_statement.body most) tokens.old) result tokens.new }
+    ensures { Reads (spec.member_node most (spec_statement.value most) (spec_statement.body most) tokens.old) result tokens.new }
 {
     if tokens.eat(Operator::Semicolon) {
         return Ok(Member::Empty);

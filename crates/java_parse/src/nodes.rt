@@ -2,9 +2,10 @@
 
 ghost use Rattle.std.specs.Prelude.{◌≡◌, IfOk};
 
-use java_syntax::{BaseType, BinaryOp, Expr, Ident, TypeTree, UnaryOp};
+use java_syntax::{BinaryOp, Expr, UnaryOp};
 use sqlite_items::{Boxed, Items};
 use std::alloc::{AllocError, Global};
+use token_reading::{BaseType, Ident, TypeTree};
 
 pub fn paren(alloc: Global, at: u32, inner: Expr) -> Result<Expr, AllocError>
     ensures { IfOk result (λ e. e ≡ Expr.Paren at inner) }

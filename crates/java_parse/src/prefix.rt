@@ -12,18 +12,17 @@
 ghost use Rattle.std.specs.Prelude.{◌≡◌, ◌≤◌, ◌<◌, ◌+◌, IfOk, [], length};
 ghost use Rattle.java_reading.specs.ReadExpr as spec;
 ghost use Rattle.java_parse.specs.Nests.{Nests};
-ghost use Rattle.java_parse.specs.Reads.{Reads};
+ghost use Rattle.token_reading.specs.Reads.{Reads};
 
 use crate::grammar::{Grammar, Tall, Talls};
 use crate::infix::unary_level;
+use crate::lookahead::casts;
 use crate::nodes;
-use crate::refusal::Refusal;
-use crate::tokens::Tokens;
-use crate::types::castable;
-use java_syntax::{BaseType, Expr, Ident, UnaryOp};
+use java_syntax::{Expr, UnaryOp};
 use java_tokens::{Keyword, Operator, TokenKind};
 use sqlite_items::Items;
 use std::alloc::Global;
+use token_reading::{BaseType, Ident, Refusal, Tokens, castable};
 
 impl<F: Fn(Global, &mut Tokens<'_>, u32, u8) -> Result<Tall, Refusal>> Grammar<F> {
     /// Further arguments and the closing parenthesis.
@@ -48,7 +47,7 @@ impl<F: Fn(Global, &mut Tokens<'_>, u32, u8) -> Result<Tall, Refusal>> Grammar<F
         Err(Refusal::NoTree)
     }
 
-    /// The arguments behind the opening parenthesis, and the greatest of their heights (JLS 15.12).
+    /// The arguments after the opening parenthesis, and the greatest of their heights (JLS 15.12).
     #[tactic(auto, unfolding(java_reading::specs::ReadExpr::args))]
     pub fn args(&self, tokens: &mut Tokens<'_>) -> Result<Talls, Refusal>
         requires part { Nests self.now.parts (F.pre self.now.read) (F.post self.now.read) }
@@ -62,7 +61,7 @@ impl<F: Fn(Global, &mut Tokens<'_>, u32, u8) -> Result<Tall, Refusal>> Grammar<F
         self.more_args(tokens)
     }
 
-    /// What stands behind a name: the arguments of a call, or nothing.
+    /// What stands after a name: the arguments of a call, or nothing.
     #[tactic(auto, unfolding(java_reading::specs::ReadExpr::named))]
     fn named(&self, tokens: &mut Tokens<'_>, name: Ident) -> Result<Tall, Refusal>
         requires part { Nests self.now.parts (F.pre self.now.read) (F.post self.now.read) }
@@ -78,32 +77,33 @@ impl<F: Fn(Global, &mut Tokens<'_>, u32, u8) -> Result<Tall, Refusal>> Grammar<F
         }
     }
 
-    /// What stands behind the `(` of a cast (JLS 15.16).
+    /// What stands after the `(` of a cast (JLS 15.16).
     #[tactic(auto, unfolding(java_reading::specs::ReadExpr::cast))]
     fn cast(&self, tokens: &mut Tokens<'_>, at: u32) -> Result<Tall, Refusal>
         requires part { Nests self.now.parts (F.pre self.now.read) (F.post self.now.read) }
         requires low { self.now.parts < 200 }
-        ensures reads { Reads (spec.cast (spec.reading self.now.parts) at tokens.old) result tokens.new }
+        ensures reads { Reads (spec.cast self.now.parts (spec.reading self.now.parts) at tokens.old) result tokens.new }
         ensures low { IfOk result (λ t. t.1 ≤ self.now.parts + 1) }
     {
-        let ty = tokens.type_tree()?;
+        let ty = tokens.type_tree(self.parts)?;
         if !castable(&ty) {
             return Err(Refusal::NoTree);
         }
         tokens.expect(Operator::RightParen)?;
         let (operand, height) = self.part(tokens, 13)?;
-        Ok((nodes::cast(self.alloc, at, ty, operand)?, height + 1))
+        let height = ty.height().max(height) + 1;
+        Ok((nodes::cast(self.alloc, at, ty, operand)?, height))
     }
 
-    /// What stands behind a `(`.
+    /// What stands after a `(`.
     #[tactic(auto, unfolding(java_reading::specs::ReadExpr::parens))]
     fn parens(&self, tokens: &mut Tokens<'_>, at: u32) -> Result<Tall, Refusal>
         requires part { Nests self.now.parts (F.pre self.now.read) (F.post self.now.read) }
         requires low { self.now.parts < 200 }
-        ensures reads { Reads (spec.parens (spec.reading self.now.parts) at tokens.old) result tokens.new }
+        ensures reads { Reads (spec.parens self.now.parts (spec.reading self.now.parts) at tokens.old) result tokens.new }
         ensures low { IfOk result (λ t. t.1 ≤ self.now.parts + 1) }
     {
-        if tokens.casts() {
+        if casts(tokens) {
             return self.cast(tokens, at);
         }
         let (inner, height) = self.part(tokens, 1)?;
@@ -111,7 +111,7 @@ impl<F: Fn(Global, &mut Tokens<'_>, u32, u8) -> Result<Tall, Refusal>> Grammar<F
         Ok((nodes::paren(self.alloc, at, inner)?, height + 1))
     }
 
-    /// What stands behind an operator before its operand (JLS 15.15).
+    /// What stands after an operator before its operand (JLS 15.15).
     #[tactic(auto, unfolding(java_reading::specs::ReadExpr::operand))]
     fn operand(
         &self,
@@ -132,7 +132,7 @@ impl<F: Fn(Global, &mut Tokens<'_>, u32, u8) -> Result<Tall, Refusal>> Grammar<F
         Ok((nodes::unary(self.alloc, at, op, operand)?, height + 1))
     }
 
-    /// What stands behind `super` (JLS 15.12).
+    /// What stands after `super` (JLS 15.12).
     #[tactic(auto, unfolding(java_reading::specs::ReadExpr::super_call))]
     fn super_call(&self, tokens: &mut Tokens<'_>, at: u32) -> Result<Tall, Refusal>
         requires part { Nests self.now.parts (F.pre self.now.read) (F.post self.now.read) }
@@ -147,7 +147,7 @@ impl<F: Fn(Global, &mut Tokens<'_>, u32, u8) -> Result<Tall, Refusal>> Grammar<F
         Ok((Expr::Super(at, name, given), height + 1))
     }
 
-    /// What stands behind `new` and the name of a class (JLS 15.9).
+    /// What stands after `new` and the name of a class (JLS 15.9).
     #[tactic(auto, unfolding(java_reading::specs::ReadExpr::instance))]
     fn instance(&self, tokens: &mut Tokens<'_>, at: u32, class: Ident) -> Result<Tall, Refusal>
         requires part { Nests self.now.parts (F.pre self.now.read) (F.post self.now.read) }
@@ -160,28 +160,28 @@ impl<F: Fn(Global, &mut Tokens<'_>, u32, u8) -> Result<Tall, Refusal>> Grammar<F
         Ok((Expr::New(at, class, given), height + 1))
     }
 
-    /// What stands behind `new` and the base of an array's type (JLS 15.10).
+    /// What stands after `new` and the base of an array's type (JLS 15.10).
     #[tactic(auto, unfolding(java_reading::specs::ReadExpr::array))]
     fn array(&self, tokens: &mut Tokens<'_>, at: u32, base: BaseType) -> Result<Tall, Refusal>
         requires part { Nests self.now.parts (F.pre self.now.read) (F.post self.now.read) }
         requires low { self.now.parts < 200 }
-        ensures reads { Reads (spec.array (spec.reading self.now.parts) at base tokens.old) result tokens.new }
+        ensures reads { Reads (spec.array self.now.parts (spec.reading self.now.parts) at base tokens.old) result tokens.new }
         ensures low { IfOk result (λ t. t.1 ≤ self.now.parts + 1) }
     {
         tokens.expect(Operator::LeftBracket)?;
         let (size, height) = self.part(tokens, 1)?;
         tokens.expect(Operator::RightBracket)?;
-        let dimensions = tokens.brackets()?;
+        let dimensions = tokens.brackets(self.parts)?;
         let tree = nodes::new_array(self.alloc, at, base, size, dimensions)?;
-        Ok((tree, height + 1))
+        Ok((tree, dimensions.max(height) + 1))
     }
 
-    /// What stands behind `new`.
+    /// What stands after `new`.
     #[tactic(auto, unfolding(java_reading::specs::ReadExpr::creation))]
     fn creation(&self, tokens: &mut Tokens<'_>, at: u32) -> Result<Tall, Refusal>
         requires part { Nests self.now.parts (F.pre self.now.read) (F.post self.now.read) }
         requires low { self.now.parts < 200 }
-        ensures reads { Reads (spec.creation (spec.reading self.now.parts) at tokens.old) result tokens.new }
+        ensures reads { Reads (spec.creation self.now.parts (spec.reading self.now.parts) at tokens.old) result tokens.new }
         ensures low { IfOk result (λ t. t.1 ≤ self.now.parts + 1) }
     {
         match tokens.base_type()? {
@@ -206,7 +206,7 @@ impl<F: Fn(Global, &mut Tokens<'_>, u32, u8) -> Result<Tall, Refusal>> Grammar<F
     ) -> Result<Tall, Refusal>
         requires part { Nests self.now.parts (F.pre self.now.read) (F.post self.now.read) }
         requires low { self.now.parts < 200 }
-        ensures reads { Reads (spec.prefix_operator (spec.reading self.now.parts) least at sign tokens.old) result tokens.new }
+        ensures reads { Reads (spec.prefix_operator self.now.parts (spec.reading self.now.parts) least at sign tokens.old) result tokens.new }
         ensures low { IfOk result (λ t. t.1 ≤ self.now.parts + 1) }
     {
         match sign {
@@ -228,7 +228,7 @@ impl<F: Fn(Global, &mut Tokens<'_>, u32, u8) -> Result<Tall, Refusal>> Grammar<F
     ) -> Result<Tall, Refusal>
         requires part { Nests self.now.parts (F.pre self.now.read) (F.post self.now.read) }
         requires low { self.now.parts < 200 }
-        ensures reads { Reads (spec.prefix_keyword (spec.reading self.now.parts) at word tokens.old) result tokens.new }
+        ensures reads { Reads (spec.prefix_keyword self.now.parts (spec.reading self.now.parts) at word tokens.old) result tokens.new }
         ensures low { IfOk result (λ t. t.1 ≤ self.now.parts + 1) }
     {
         match word {
@@ -247,7 +247,7 @@ impl<F: Fn(Global, &mut Tokens<'_>, u32, u8) -> Result<Tall, Refusal>> Grammar<F
     pub fn prefix(&self, tokens: &mut Tokens<'_>, least: u8) -> Result<Tall, Refusal>
         requires part { Nests self.now.parts (F.pre self.now.read) (F.post self.now.read) }
         requires low { self.now.parts < 200 }
-        ensures reads { Reads (spec.prefix (spec.reading self.now.parts) least tokens.old) result tokens.new }
+        ensures reads { Reads (spec.prefix self.now.parts (spec.reading self.now.parts) least tokens.old) result tokens.new }
         ensures low { IfOk result (λ t. t.1 ≤ self.now.parts + 1) }
     {
         let at = tokens.at();

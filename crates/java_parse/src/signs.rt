@@ -3,9 +3,9 @@
 ghost use Rattle.std.specs.Prelude.{◌≡◌};
 ghost use Rattle.java_reading.specs.ReadStmt as spec;
 
-use crate::tokens::Tokens;
 use java_syntax::{AssignOp, StepOp};
 use java_tokens::{Operator, TokenKind};
+use token_reading::Tokens;
 
 fn assign_operator(sign: Operator) -> Option<AssignOp>
     ensures { result ≡ spec.assign_operator sign }

@@ -5,21 +5,20 @@
 //! Simple = Post AssignOp Expr | Post ( "++" | "--" ) | ( "++" | "--" ) Post | Expr
 //! ```
 //!
-//! The operand of a sign is read as any expression, and tested behind it.
+//! The operand of a sign is read as any expression, and tested after it.
 
 ghost use Rattle.std.specs.Prelude.{◌≡◌, ◌≤◌, ◌<◌, ℕ};
 ghost use Rattle.java_syntax.specs.declared.expression.Expr.{out-Expr};
 ghost use Rattle.java_reading.specs.ReadStmt as spec;
-ghost use Rattle.java_parse.specs.Reads.{Reads};
+ghost use Rattle.token_reading.specs.Reads.{Reads};
 
 use crate::grammar::{Grammar, reading};
-use crate::refusal::Refusal;
 use crate::signs::{assign_at, step_at};
-use crate::tokens::Tokens;
 use java_syntax::{AssignOp, Expr, Fix, LocalTree, StepOp, Stmt};
 use java_tokens::Operator;
 use sqlite_items::Items;
 use std::alloc::Global;
+use token_reading::{Refusal, Tokens};
 
 /// Whether the expression may be assigned to, as far as the grammar goes: no operator but `.` and `[` makes it.
 fn is_post(tree: &Expr) -> bool
@@ -77,9 +76,9 @@ pub fn initial(alloc: Global, tokens: &mut Tokens<'_>, most: u32) -> Result<Opti
 #[tactic(auto, unfolding(java_reading::specs::ReadStmt::local))]
 fn local(alloc: Global, tokens: &mut Tokens<'_>, most: u32) -> Result<LocalTree, Refusal>
     requires { most ≤ 200 }
-    ensures { Reads (spec.local (spec.value most) tokens.old) result tokens.new }
+    ensures { Reads (spec.local most (spec.value most) tokens.old) result tokens.new }
 {
-    let ty = tokens.type_tree()?;
+    let ty = tokens.type_tree(most)?;
     let name = tokens.ident()?;
     let value = initial(alloc, tokens, most)?;
     Ok(LocalTree { ty, name, value })
@@ -89,12 +88,12 @@ fn local(alloc: Global, tokens: &mut Tokens<'_>, most: u32) -> Result<LocalTree,
 #[tactic(auto, unfolding(java_reading::specs::ReadStmt::declaration))]
 pub fn declaration(alloc: Global, tokens: &mut Tokens<'_>, most: u32) -> Result<Stmt, Refusal>
     requires { most ≤ 200 }
-    ensures { Reads (spec.declaration (spec.value most) tokens.old) result tokens.new }
+    ensures { Reads (spec.declaration most (spec.value most) tokens.old) result tokens.new }
 {
     Ok(Stmt::Local(local(alloc, tokens, most)?))
 }
 
-/// What stands behind the `++` or `--` before its operand (JLS 15.15).
+/// What stands after the `++` or `--` before its operand (JLS 15.15).
 #[tactic(auto, unfolding(java_reading::specs::ReadStmt::step_before))]
 fn step_before(
     alloc: Global,
@@ -113,7 +112,7 @@ fn step_before(
     }
 }
 
-/// What stands behind an operand and its sign of assignment (JLS 15.26).
+/// What stands after an operand and its sign of assignment (JLS 15.26).
 #[tactic(auto, unfolding(java_reading::specs::ReadStmt::assignment))]
 fn assignment(
     alloc: Global,
@@ -132,7 +131,7 @@ fn assignment(
     Ok(Stmt::Assign(target, op, value))
 }
 
-/// An operand and the `++` or `--` behind it (JLS 15.14).
+/// An operand and the `++` or `--` after it (JLS 15.14).
 #[tactic(auto, unfolding(java_reading::specs::ReadStmt::step_behind))]
 fn step_behind(tokens: &mut Tokens<'_>, operand: Expr, op: StepOp) -> Result<Stmt, Refusal>
     ensures { (most : ℕ) → Reads (spec.step_behind (spec.value most) operand op tokens.old) result tokens.new }
@@ -144,7 +143,7 @@ fn step_behind(tokens: &mut Tokens<'_>, operand: Expr, op: StepOp) -> Result<Stm
     }
 }
 
-/// What stands behind an expression with which a statement begins (JLS 14.8).
+/// What stands after an expression with which a statement begins (JLS 14.8).
 #[tactic(auto, unfolding(java_reading::specs::ReadStmt::evaluated))]
 fn evaluated(
     alloc: Global,

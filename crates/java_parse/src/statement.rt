@@ -9,22 +9,22 @@
 
 ghost use Rattle.std.specs.Prelude.{◌≡◌, ◌≤◌, ◌<◌, [], length};
 ghost use Rattle.java_reading.specs.ReadStmt as spec;
-ghost use Rattle.java_reading.specs.ReadType as spec_type;
+ghost use Rattle.token_reading.specs.ReadType as spec_type;
 ghost use Rattle.java_parse.specs.Nests.{NestsStatements};
-ghost use Rattle.java_parse.specs.Reads.{Reads};
+ghost use Rattle.token_reading.specs.Reads.{Reads};
 
-use crate::refusal::Refusal;
+use crate::lookahead::is_local;
 use crate::simple::{arguments, declaration, simple};
 use crate::statement_nodes as nodes;
 use crate::statements::Statements;
-use crate::tokens::Tokens;
 use java_syntax::{Expr, Stmt};
 use java_tokens::{Keyword, Operator, TokenKind};
 use sqlite_items::Items;
 use std::alloc::Global;
+use token_reading::{Refusal, Tokens};
 
 impl<F: Fn(Global, &mut Tokens<'_>, u32, bool) -> Result<Stmt, Refusal>> Statements<F> {
-    /// Statements and the closing brace, behind the opening one (JLS 14.2).
+    /// Statements and the closing brace, after the opening one (JLS 14.2).
     #[tactic(auto, unfolding(java_reading::specs::ReadStmt::stmts))]
     pub fn stmts(&self, tokens: &mut Tokens<'_>) -> Result<Items<Stmt>, Refusal>
         requires part { NestsStatements self.now.parts (F.pre self.now.read) (F.post self.now.read) }
@@ -43,7 +43,7 @@ impl<F: Fn(Global, &mut Tokens<'_>, u32, bool) -> Result<Stmt, Refusal>> Stateme
         Err(Refusal::NoTree)
     }
 
-    /// What stands behind the opening brace of a block.
+    /// What stands after the opening brace of a block.
     #[tactic(auto, unfolding(java_reading::specs::ReadStmt::block))]
     fn block(&self, tokens: &mut Tokens<'_>) -> Result<Stmt, Refusal>
         requires part { NestsStatements self.now.parts (F.pre self.now.read) (F.post self.now.read) }
@@ -114,7 +114,7 @@ impl<F: Fn(Global, &mut Tokens<'_>, u32, bool) -> Result<Stmt, Refusal>> Stateme
         }
     }
 
-    /// What stands behind `if` (JLS 14.9).
+    /// What stands after `if` (JLS 14.9).
     #[tactic(auto, unfolding(java_reading::specs::ReadStmt::if_stmt))]
     fn if_stmt(&self, tokens: &mut Tokens<'_>) -> Result<Stmt, Refusal>
         requires part { NestsStatements self.now.parts (F.pre self.now.read) (F.post self.now.read) }
@@ -128,7 +128,7 @@ impl<F: Fn(Global, &mut Tokens<'_>, u32, bool) -> Result<Stmt, Refusal>> Stateme
         Ok(nodes::if_node(self.alloc, condition, then, other)?)
     }
 
-    /// What stands behind `while` (JLS 14.12).
+    /// What stands after `while` (JLS 14.12).
     #[tactic(auto, unfolding(java_reading::specs::ReadStmt::while_stmt))]
     fn while_stmt(&self, tokens: &mut Tokens<'_>) -> Result<Stmt, Refusal>
         requires part { NestsStatements self.now.parts (F.pre self.now.read) (F.post self.now.read) }
@@ -141,7 +141,7 @@ impl<F: Fn(Global, &mut Tokens<'_>, u32, bool) -> Result<Stmt, Refusal>> Stateme
         Ok(nodes::while_node(self.alloc, condition, body)?)
     }
 
-    /// What stands behind `do` (JLS 14.13).
+    /// What stands after `do` (JLS 14.13).
     #[tactic(auto, unfolding(java_reading::specs::ReadStmt::do_stmt))]
     fn do_stmt(&self, tokens: &mut Tokens<'_>) -> Result<Stmt, Refusal>
         requires part { NestsStatements self.now.parts (F.pre self.now.read) (F.post self.now.read) }
@@ -156,7 +156,7 @@ impl<F: Fn(Global, &mut Tokens<'_>, u32, bool) -> Result<Stmt, Refusal>> Stateme
         Ok(nodes::do_node(self.alloc, body, condition)?)
     }
 
-    /// What stands behind `return` (JLS 14.17).
+    /// What stands after `return` (JLS 14.17).
     #[tactic(auto, unfolding(java_reading::specs::ReadStmt::return_stmt))]
     fn return_stmt(&self, tokens: &mut Tokens<'_>, at: u32) -> Result<Stmt, Refusal>
         requires part { NestsStatements self.now.parts (F.pre self.now.read) (F.post self.now.read) }
@@ -167,7 +167,7 @@ impl<F: Fn(Global, &mut Tokens<'_>, u32, bool) -> Result<Stmt, Refusal>> Stateme
         Ok(Stmt::Return(at, self.ended(tokens)?))
     }
 
-    /// What stands behind `throw` (JLS 14.18).
+    /// What stands after `throw` (JLS 14.18).
     #[tactic(auto, unfolding(java_reading::specs::ReadStmt::throw_stmt))]
     fn throw_stmt(&self, tokens: &mut Tokens<'_>) -> Result<Stmt, Refusal>
         requires part { NestsStatements self.now.parts (F.pre self.now.read) (F.post self.now.read) }
@@ -180,7 +180,7 @@ impl<F: Fn(Global, &mut Tokens<'_>, u32, bool) -> Result<Stmt, Refusal>> Stateme
         Ok(Stmt::Throw(value))
     }
 
-    /// What stands behind `super` where a `(` comes next (JLS 8.8.7).
+    /// What stands after `super` where a `(` comes next (JLS 8.8.7).
     #[tactic(auto, unfolding(java_reading::specs::ReadStmt::super_stmt))]
     fn super_stmt(&self, tokens: &mut Tokens<'_>, at: u32) -> Result<Stmt, Refusal>
         requires part { NestsStatements self.now.parts (F.pre self.now.read) (F.post self.now.read) }
@@ -200,7 +200,7 @@ impl<F: Fn(Global, &mut Tokens<'_>, u32, bool) -> Result<Stmt, Refusal>> Stateme
         requires part { NestsStatements self.now.parts (F.pre self.now.read) (F.post self.now.read) }
         requires low { self.now.parts < 200 }
         ensures { let n = self.now.parts in
-            Reads (spec.local_stmt (spec.value n) (spec.arguments n) (spec.unended n) (spec.statement n) tokens.old) result tokens.new }
+            Reads (spec.local_stmt n (spec.value n) (spec.arguments n) (spec.unended n) (spec.statement n) tokens.old) result tokens.new }
     {
         let tree = declaration(self.alloc, tokens, self.parts)?;
         tokens.expect(Operator::Semicolon)?;
@@ -318,9 +318,9 @@ impl<F: Fn(Global, &mut Tokens<'_>, u32, bool) -> Result<Stmt, Refusal>> Stateme
         requires part { NestsStatements self.now.parts (F.pre self.now.read) (F.post self.now.read) }
         requires low { self.now.parts < 200 }
         ensures { let n = self.now.parts in
-            Reads (spec.stmt (spec.value n) (spec.arguments n) (spec.unended n) (spec.statement n) in_block tokens.old) result tokens.new }
+            Reads (spec.stmt n (spec.value n) (spec.arguments n) (spec.unended n) (spec.statement n) in_block tokens.old) result tokens.new }
     {
-        if !tokens.is_local() {
+        if !is_local(tokens) {
             return self.plain_stmt(tokens);
         }
         if in_block {

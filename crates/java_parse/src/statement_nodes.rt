@@ -3,9 +3,10 @@
 ghost use Rattle.std.specs.Prelude.{◌≡◌, IfOk, [], ◌∷◌};
 ghost use Rattle.java_reading.specs.ReadStmt.{catch_clause};
 
-use java_syntax::{CatchTree, Expr, Ident, Stmt};
+use java_syntax::{CatchTree, Expr, Stmt};
 use sqlite_items::{Boxed, Items};
 use std::alloc::{AllocError, Global};
+use token_reading::Ident;
 
 fn boxed(alloc: Global, tree: Option<Stmt>) -> Result<Option<Boxed<Stmt>>, AllocError>
     ensures { IfOk result (λ b. b ≡ tree) }

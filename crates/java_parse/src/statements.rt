@@ -3,14 +3,13 @@
 ghost use Rattle.std.specs.Prelude.{◌≡◌, ◌≤◌, ◌<◌};
 ghost use Rattle.java_reading.specs.ReadStmt as spec;
 ghost use Rattle.java_parse.specs.Nests.{NestsStatements};
-ghost use Rattle.java_parse.specs.Reads.{Reads};
+ghost use Rattle.token_reading.specs.Reads.{Reads};
 
-use crate::refusal::Refusal;
 use crate::simple;
-use crate::tokens::Tokens;
 use java_syntax::{Expr, Stmt};
 use sqlite_items::Items;
 use std::alloc::Global;
+use token_reading::{Refusal, Tokens};
 
 /// The reader of a statement from the reader of its parts.
 #[derive(Clone, Copy)]
@@ -62,7 +61,7 @@ pub fn statement(
     .stmt(tokens, in_block)
 }
 
-/// The statements of a body and its closing brace, behind the opening one.
+/// The statements of a body and its closing brace, after the opening one.
 #[tactic(auto, unfolding(java_reading::specs::ReadStmt::body))]
 pub fn body(alloc: Global, tokens: &mut Tokens<'_>, most: u32) -> Result<Items<Stmt>, Refusal>
     requires { most < 200 }

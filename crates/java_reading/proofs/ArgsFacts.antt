@@ -1,7 +1,7 @@
 -- What statements need to know of arguments.
 use Rattle.std.proofs.Common.{ℕ, ◌≤◌, List}
 use Rattle.java_syntax.specs.declared.expression.Expr.{Expr}
-use Rattle.java_syntax.specs.Lexeme.{Lexeme}
+use Rattle.token_reading.specs.Lexeme.{Lexeme}
 use Rattle.java_syntax.specs.Exprs.{Args, Within}
 use Rattle.java_reading.specs.ReadExpr.{args, reading}
 use Rattle.java_reading.proofs.Arguments.{args_goes}

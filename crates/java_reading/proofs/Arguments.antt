@@ -3,11 +3,11 @@ use Rattle.std.proofs.Common.{◌≡◌, ℕ, zero, suc, ◌≤◌, ◌<◌, max
 use Rattle.java_tokens.specs.declared.token.Operator.TheVariants as o
 use Rattle.java_tokens.specs.declared.token.TokenKind.TheVariants as k
 use Rattle.java_syntax.specs.declared.expression.Expr.{Expr}
-use Rattle.java_syntax.specs.Lexeme.{Lexeme, lexeme, Then, same_operator, sees}
+use Rattle.token_reading.specs.Lexeme.{Lexeme, lexeme, Then, same_operator, sees}
 use Rattle.java_syntax.specs.Exprs.{Args, MoreArgs, Within}
-use Rattle.java_reading.specs.Outcome.{too_high, Outcome}
+use Rattle.token_reading.specs.Outcome.{too_high, Outcome}
 use Rattle.java_reading.specs.ReadExpr.{Talls, follows, more_args, args, reading}
-use Rattle.java_reading.proofs.Tokens.{sees_it, expect_it}
+use Rattle.token_reading.proofs.Lexemes.{sees_it, expect_it}
 use Rattle.java_reading.proofs.Claims.{Done, done, over, ArgsDone, args_done, args_over}
 use Rattle.java_reading.proofs.Begins.{within_begins, no_close}
 use Rattle.java_reading.proofs.Shorter.{within_length, more_length}

@@ -9,10 +9,10 @@ use Rattle.java_syntax.specs.declared.operator.UnaryOp.{UnaryOp}
 use Rattle.java_syntax.specs.declared.operator.UnaryOp.TheVariants as unary
 use Rattle.java_syntax.specs.declared.expression.Expr.{Expr, out-Expr}
 use Rattle.java_syntax.specs.declared.expression.Expr.TheOpen.{Expr-F}
-use Rattle.java_syntax.specs.Lexeme.{Lexeme, same_operator, same_keyword, is_operator, sees}
+use Rattle.token_reading.specs.Lexeme.{Lexeme, same_operator, same_keyword, is_operator, sees}
 use Rattle.java_syntax.specs.Exprs.{Layer, level, unary_sign, unary_level, truth, begins_plain_keyword, begins_plain_operator, begins_plain, Node, Within}
-use Rattle.java_reading.specs.ReadType.{is_super_call}
 use Rattle.java_reading.proofs.Levels.{binary_range}
+use Rattle.java_reading.specs.Lookahead.{is_super_call}
 
 abbrev pub begins_operator : Operator → Bool
 begins_operator o.LeftParen = true

@@ -5,16 +5,16 @@ use Rattle.java_tokens.specs.declared.token.Keyword.TheVariants as w
 use Rattle.java_tokens.specs.declared.token.Operator.TheVariants as o
 use Rattle.java_tokens.specs.declared.token.TokenKind.{TokenKind}
 use Rattle.java_tokens.specs.declared.token.TokenKind.TheVariants as k
-use Rattle.java_syntax.specs.declared.name.BaseType.{BaseType}
-use Rattle.java_syntax.specs.declared.name.BaseType.TheVariants as base
-use Rattle.java_syntax.specs.declared.name.TypeTree.{TypeTree}
-use Rattle.java_syntax.specs.Lexeme.{Lexeme, lexeme, Then, same_operator, is_operator, sees}
-use Rattle.java_syntax.specs.Types.{Brackets, IsBase, IsType}
-use Rattle.java_syntax.specs.Exprs.{begins_plain, begins_type_keyword, begins_type, past_brackets, closes_cast, casts}
+use Rattle.token_reading.specs.declared.name.BaseType.{BaseType}
+use Rattle.token_reading.specs.declared.name.BaseType.TheVariants as base
+use Rattle.token_reading.specs.declared.name.TypeTree.{TypeTree}
+use Rattle.token_reading.specs.Lexeme.{Lexeme, lexeme, Then, same_operator, is_operator, sees}
+use Rattle.token_reading.specs.Types.{Brackets, IsBase, IsType, past_brackets}
+use Rattle.java_syntax.specs.Exprs.{begins_plain, begins_type_keyword, begins_type, closes_cast, casts}
 use Rattle.java_reading.specs.ExprLaws.{sees_plain, BeginsCast, SeesCasts}
-use Rattle.java_reading.specs.ReadType.{ident_at, type_of}
+use Rattle.token_reading.specs.ReadType.{ident_at, type_of}
 use Rattle.java_reading.proofs.Begins.{Begins}
-use Rattle.java_reading.proofs.Tokens.{from_sees}
+use Rattle.token_reading.proofs.Lexemes.{from_sees}
 
 stays : (xs : List Lexeme) → sees o.LeftBracket xs ≡ false → past_brackets xs ≡ xs
 stays [] shut = refl

@@ -1,9 +1,9 @@
 -- What reading gives where a tree is written, and what is written where reading gives it.
 use Rattle.std.proofs.Common.{◌≡◌, ℕ, suc, ◌+◌, ◌≤◌, ◌<◌, List, length, Ok, Err}
 use Rattle.java_syntax.specs.declared.expression.Expr.{Expr, out-Expr}
-use Rattle.java_syntax.specs.Lexeme.{Lexeme}
+use Rattle.token_reading.specs.Lexeme.{Lexeme}
 use Rattle.java_syntax.specs.Exprs.{Within, Args}
-use Rattle.java_reading.specs.Outcome.{no_tree, too_high, Outcome}
+use Rattle.token_reading.specs.Outcome.{no_tree, too_high, Outcome}
 use Rattle.java_reading.specs.ReadExpr.{Tall, Talls, follows, args, climb, reading}
 use Rattle.java_reading.proofs.Levels.{after}
 
@@ -15,7 +15,7 @@ pub data Done (n b l : ℕ) (e : Expr) (xs rest : List Lexeme) : Type 0 where
 -- Reading with a budget of one more than b comes to the tree e as a left operand, or e is higher than that.
 pub data Goes (n b l : ℕ) (e : Expr) (xs rest : List Lexeme) : Type 0 where
   goes : (h fuel : ℕ) → h ≤ n → h ≤ suc b → suc b < fuel + h
-      → reading (suc b) l xs ≡ climb (reading b) l (suc b) fuel (e, h) rest → Goes n b l e xs rest
+      → reading (suc b) l xs ≡ climb b (reading b) l fuel (e, h) rest → Goes n b l e xs rest
   higher : suc b < n → reading (suc b) l xs ≡ Err too_high → Goes n b l e xs rest
 
 -- The same of arguments, with the greatest of their heights.

@@ -10,15 +10,15 @@ use Rattle.java_syntax.specs.declared.class.Modifier.TheVariants as modifier
 use Rattle.java_syntax.specs.declared.expression.Expr.{Expr}
 use Rattle.java_syntax.specs.declared.expression.Expr as expr
 use Rattle.java_syntax.specs.declared.expression.Expr.TheVariants as e
-use Rattle.java_syntax.specs.declared.name.BaseType.TheVariants as base
+use Rattle.token_reading.specs.declared.name.BaseType.TheVariants as base
 use Rattle.java_syntax.specs.declared.statement.Stmt.TheVariants as s
-use Rattle.java_syntax.specs.Lexeme.{Lexeme, lexeme, same_operator, same_keyword}
-use Rattle.java_reading.specs.Outcome.{no_tree, too_high}
-use Rattle.java_reading.specs.ReadType.{expect, expect_word, ident_at, ident, brackets, base_type, type_of, type_tree}
+use Rattle.token_reading.specs.Lexeme.{Lexeme, lexeme, same_operator, same_keyword}
+use Rattle.token_reading.specs.Outcome.{no_tree, too_high}
+use Rattle.token_reading.specs.ReadType.{expect, expect_word, ident_at, ident, brackets, pairs, base_type, type_of, type_tree, none_fits, param_of, param, more_params, params}
 use Rattle.java_reading.specs.ReadExpr.{more_args, args, named, cast, parens, operand, super_call, instance, array, creation, prefix, member, element, conditional, instance_of, operated, climb, precedence, reading}
-use Rattle.java_reading.specs.ReadStmt.{value, arguments, none_fits, local_of, initial, local, declaration, step_before, assignment, step_behind, evaluated, simple, unended, stmts, block, inner_block, condition, ended, otherwise, if_stmt, while_stmt, do_stmt, more_simples, simples, start, for_stmt, return_stmt, throw_stmt, super_stmt, catch, catches, finally, try_stmt, local_stmt, simple_stmt, plain_stmt, stmt, statement, body}
+use Rattle.java_reading.specs.ReadStmt.{value, arguments, local_of, initial, local, declaration, step_before, assignment, step_behind, evaluated, simple, unended, stmts, block, inner_block, condition, ended, otherwise, if_stmt, while_stmt, do_stmt, more_simples, simples, start, for_stmt, return_stmt, throw_stmt, super_stmt, catch, catches, finally, try_stmt, local_stmt, simple_stmt, plain_stmt, stmt, statement, body}
 use Rattle.java_reading.specs.ReadClass as read
-use Rattle.java_reading.specs.ReadClass.{modifiers, param_of, param, more_params, params, names, throws, mods_of, maker_of, method_of, field_of, maker, method, field, void_method, constructor, typed, declared, member_node, public, extends, class_of, members, class_node, class, classes, file}
+use Rattle.java_reading.specs.ReadClass.{modifiers, names, throws, mods_of, maker_of, method_of, field_of, maker, method, field, void_method, constructor, typed, declared, member_node, public, extends, class_of, members, class_node, class, classes, file}
 
 -- these tokens, numbered from the number on
 abbrev row : ℕ → List TokenKind → List Lexeme
@@ -70,7 +70,7 @@ files :
     × Refuses (k.Op o.Semicolon ∷ k.End ∷ [])
     -- no end
     × Refuses ([])
-    -- a token behind the end
+    -- a token after the end
     × Refuses (k.End ∷ k.Op o.Semicolon ∷ [])
     -- `class A { public ; }`
     × Refuses (k.Word w.Class ∷ k.Ident name_upper_a ∷ k.Op o.LeftBrace ∷ k.Word w.Public ∷ k.Op o.Semicolon ∷
@@ -96,17 +96,17 @@ files :
     (s.Empty ∷ []))) ∷ kinds.Maker (maker_of (mods_of []) (ident_at 37 name_upper_a) [] [] (s.Super 41 [] ∷ []))
     ∷ kinds.Empty ∷ kinds.Method (method_of (Some (type_of base.Int 0)) (maker_of (mods_of []) (ident_at 48
     name_f) [] [] (s.Return 52 (Some (e.Name (ident_at 53 name_x))) ∷ []))) ∷ []) ∷ [])
-unfolding reading precedence prefix climb named args more_args cast parens operand super_call instance array creation member element conditional instance_of operated expect expect_word ident brackets base_type type_tree same_operator same_keyword value arguments none_fits initial local declaration step_before assignment step_behind evaluated simple unended stmts block inner_block condition ended otherwise if_stmt while_stmt do_stmt more_simples simples start for_stmt return_stmt throw_stmt super_stmt catch catches finally try_stmt local_stmt simple_stmt plain_stmt stmt statement expr.out-Expr denote.Hole.Carrier.out body modifiers param more_params params names throws maker method field void_method constructor typed declared member_node read.member public extends members class_node class classes file
+unfolding reading precedence prefix climb named args more_args cast parens operand super_call instance array creation member element conditional instance_of operated expect expect_word ident brackets pairs base_type type_tree same_operator same_keyword value arguments none_fits initial local declaration step_before assignment step_behind evaluated simple unended stmts block inner_block condition ended otherwise if_stmt while_stmt do_stmt more_simples simples start for_stmt return_stmt throw_stmt super_stmt catch catches finally try_stmt local_stmt simple_stmt plain_stmt stmt statement expr.out-Expr denote.Hole.Carrier.out body modifiers param more_params params names throws maker method field void_method constructor typed declared member_node read.member public extends members class_node class classes file
 files = (refl, refl, refl, refl, refl, refl, refl)
 
 -- ---- heights
 
--- so many tokens of a kind
+-- that many tokens of a kind
 abbrev so_many : ℕ → TokenKind → List TokenKind → List TokenKind
 so_many zero x xs = xs
 so_many (suc n) x xs = x ∷ so_many n x xs
 
--- `class A { static void m() { int x = (..(1)..); } }` with so many pairs of parentheses
+-- `class A { static void m() { int x = (..(1)..); } }` with that many pairs of parentheses
 abbrev nested : ℕ → List TokenKind
 nested n =
     k.Word w.Class ∷ k.Ident name_upper_a ∷ k.Op o.LeftBrace ∷ k.Word w.Static ∷ k.Word w.Void ∷ k.Ident name_m ∷
@@ -131,5 +131,5 @@ heights :
     × (file 200 (row 0 (nested 197)) ≡ Err too_high)
     × (file 5 (row 0 (nested 1)) ≡ Ok (nested_classes 1, []))
     × (file 4 (row 0 (nested 1)) ≡ Err too_high)
-unfolding reading precedence prefix climb named args more_args cast parens operand super_call instance array creation member element conditional instance_of operated expect expect_word ident brackets base_type type_tree same_operator same_keyword value arguments none_fits initial local declaration step_before assignment step_behind evaluated simple unended stmts block inner_block condition ended otherwise if_stmt while_stmt do_stmt more_simples simples start for_stmt return_stmt throw_stmt super_stmt catch catches finally try_stmt local_stmt simple_stmt plain_stmt stmt statement expr.out-Expr denote.Hole.Carrier.out body modifiers param more_params params names throws maker method field void_method constructor typed declared member_node read.member public extends members class_node class classes file
+unfolding reading precedence prefix climb named args more_args cast parens operand super_call instance array creation member element conditional instance_of operated expect expect_word ident brackets pairs base_type type_tree same_operator same_keyword value arguments none_fits initial local declaration step_before assignment step_behind evaluated simple unended stmts block inner_block condition ended otherwise if_stmt while_stmt do_stmt more_simples simples start for_stmt return_stmt throw_stmt super_stmt catch catches finally try_stmt local_stmt simple_stmt plain_stmt stmt statement expr.out-Expr denote.Hole.Carrier.out body modifiers param more_params params names throws maker method field void_method constructor typed declared member_node read.member public extends members class_node class classes file
 heights = (refl, refl, refl, refl)

@@ -1,13 +1,13 @@
 -- What statements need to know of expressions.
 use Rattle.std.proofs.Common.{◌≡◌, ℕ, ◌≤◌, ◌<◌, List, length, false}
 use Rattle.java_syntax.specs.declared.expression.Expr.{Expr, out-Expr}
-use Rattle.java_syntax.specs.Lexeme.{Lexeme}
+use Rattle.token_reading.specs.Lexeme.{Lexeme}
 use Rattle.java_syntax.specs.Exprs.{level, Within}
 use Rattle.java_syntax.specs.Height.{expr_height}
-use Rattle.java_reading.specs.ReadType.{declares, is_local, is_super_call}
 use Rattle.java_reading.specs.ReadExpr.{follows, reading}
 use Rattle.java_reading.proofs.Begins.{Begins}
 use Rattle.java_reading.proofs.Claims.{Done, Sound}
+use Rattle.java_reading.specs.Lookahead.{declares, is_local, is_super_call}
 
 pub record ExprFacts : Type 0 where
   -- A tree that is written before a token that binds to nothing is found, or it is higher than the budget. A tree of
@@ -23,7 +23,7 @@ pub record ExprFacts : Type 0 where
   -- A tree takes a token, and has a height.
   pub shorter : (n : ℕ) (e : Expr) (l : ℕ) (xs rest : List Lexeme) → Within n e l xs rest → length rest < length xs
   pub some_height : (n : ℕ) (e : Expr) (l : ℕ) (xs rest : List Lexeme) → Within n e l xs rest → 0 < n
-  -- What it begins with: no `super` and `(`, and no declaration where the token behind it declares nothing.
+  -- What it begins with: no `super` and `(`, and no declaration where the token after it declares nothing.
   pub begins : (n : ℕ) (e : Expr) (l : ℕ) (xs rest : List Lexeme) → Within n e l xs rest → Begins l xs
   pub no_super_call : (n : ℕ) (e : Expr) (l : ℕ) (xs rest : List Lexeme) → Within n e l xs rest → is_super_call xs ≡ false
   pub no_local : (n : ℕ) (e : Expr) (l : ℕ) (xs rest : List Lexeme) → declares rest ≡ false → Within n e l xs rest → is_local xs ≡ false

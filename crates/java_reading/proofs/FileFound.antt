@@ -6,18 +6,17 @@ use Rattle.java_tokens.specs.declared.token.Operator.TheVariants as o
 use Rattle.java_tokens.specs.declared.token.TokenKind.TheVariants as k
 use Rattle.java_syntax.specs.declared.class.ClassTree.{ClassTree}
 use Rattle.java_syntax.specs.declared.class.Member.{Member}
-use Rattle.java_syntax.specs.declared.name.Ident.{Ident}
-use Rattle.java_syntax.specs.Lexeme.{Lexeme, Then, same_operator, same_keyword}
+use Rattle.token_reading.specs.declared.name.Ident.{Ident}
+use Rattle.token_reading.specs.Lexeme.{Lexeme, Then, same_operator, same_keyword}
 use Rattle.java_syntax.specs.Classes.{MemberWithin, Public, Extends, Members, IsClass, ClassWithin}
 use Rattle.java_syntax.specs.Spells.{ClassesWithin, FileWithin}
 use Rattle.java_reading.specs.ReadClass.{member, public, extends, members, class_node, class, sees_end, classes, file}
 use Rattle.java_reading.proofs.ArgsFacts.{ArgsFacts}
 use Rattle.java_reading.proofs.ExprFacts.{ExprFacts}
 use Rattle.java_reading.proofs.MemberFound.{member_length, member_found, member_other}
-use Rattle.java_reading.proofs.SimpleFound.{op_or, word_or, ident_or}
-use Rattle.java_reading.proofs.StmtLengths.{none_or}
-use Rattle.java_reading.proofs.Steps.{Or, found, or_then, raise}
-use Rattle.java_reading.proofs.Tokens.{then_length, sees_word_it}
+use Rattle.token_reading.proofs.Steps.{Or, found, or_then, raise}
+use Rattle.token_reading.proofs.Lexemes.{then_length, sees_word_it}
+use Rattle.token_reading.proofs.Found.{op_or, word_or, ident_or, none_or}
 
 -- ---- lengths
 

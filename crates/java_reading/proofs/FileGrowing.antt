@@ -4,19 +4,20 @@ use Rattle.java_syntax.specs.declared.class.ClassTree.{ClassTree}
 use Rattle.java_syntax.specs.declared.class.FileTree.{FileTree}
 use Rattle.java_syntax.specs.declared.class.Member.{Member}
 use Rattle.java_syntax.specs.declared.class.Member.TheVariants as kinds
-use Rattle.java_syntax.specs.Lexeme.{Lexeme}
+use Rattle.token_reading.specs.Lexeme.{Lexeme}
 use Rattle.java_syntax.specs.Classes.{MemberWithin, Members, ClassWithin}
 use Rattle.java_syntax.specs.Spells.{ClassesWithin, FileWithin}
-use Rattle.java_syntax.specs.Height.{highest, member_height, class_height, file_height}
+use Rattle.java_syntax.specs.Height.{member_height, class_height, file_height}
 use Rattle.java_reading.proofs.StmtGrowing.{initial_low, body_at_most, initial_fit, body_fit}
+use Rattle.token_reading.specs.Height.{highest}
 
 -- ---- no lower than its height
 
 member_low : (n : ℕ) (t : Member) (xs rest : List Lexeme) → MemberWithin n t xs rest → member_height t ≤ n
 member_low zero t xs rest w = absurd w
-member_low (suc n) (kinds.Field t) xs rest w = omega (arith, initial_low n t.value w.4 w.6 w.7)
-member_low (suc n) (kinds.Method t) xs rest w = omega (arith, body_at_most n t.body w.6.6 rest w.6.8)
-member_low (suc n) (kinds.Maker t) xs rest w = omega (arith, body_at_most n t.body w.4.6 rest w.4.8)
+member_low (suc n) (kinds.Field t) xs rest w = omega (arith, initial_low n t.value w.0.4 w.0.6 w.0.7, w.1)
+member_low (suc n) (kinds.Method t) xs rest w = omega (arith, body_at_most n t.body w.0.6.6 rest w.0.6.8, w.1)
+member_low (suc n) (kinds.Maker t) xs rest w = omega (arith, body_at_most n t.body w.0.4.6 rest w.0.4.8, w.1)
 member_low (suc n) kinds.Empty xs rest w = omega arith
 
 members_low : (n : ℕ) (all : List Member) (xs rest : List Lexeme) → Members (MemberWithin n) all xs rest → highest (map member_height all) ≤ n
@@ -43,24 +44,30 @@ member_fit (suc n) zero (kinds.Method t) xs rest low w = absurd (omega arith)
 member_fit (suc n) zero (kinds.Maker t) xs rest low w = absurd (omega arith)
 member_fit (suc n) zero kinds.Empty xs rest low w = absurd (omega arith)
 member_fit (suc n) (suc m) (kinds.Field t) xs rest low w =
-    (w.0, w.1, w.2, w.3, w.4, w.5, w.6, initial_fit n m t.value w.4 w.6 (omega arith) w.7, w.8)
+    ((w.0.0, w.0.1, w.0.2, w.0.3, w.0.4, w.0.5, w.0.6, initial_fit n m t.value w.0.4 w.0.6 (omega arith) w.0.7, w.0.8), omega arith)
 member_fit (suc n) (suc m) (kinds.Method t) xs rest low w = (
-  w.0,
-  w.1,
-  w.2,
-  w.3,
-  w.4,
-  w.5,
-  (w.6.0, w.6.1, w.6.2, w.6.3, w.6.4, w.6.5, w.6.6, w.6.7, body_fit n m t.body w.6.6 rest (omega arith) w.6.8),
+  (
+    w.0.0,
+    w.0.1,
+    w.0.2,
+    w.0.3,
+    w.0.4,
+    w.0.5,
+    (w.0.6.0, w.0.6.1, w.0.6.2, w.0.6.3, w.0.6.4, w.0.6.5, w.0.6.6, w.0.6.7, body_fit n m t.body w.0.6.6 rest (omega arith) w.0.6.8),
+  ),
+  omega arith,
 )
 member_fit (suc n) (suc m) (kinds.Maker t) xs rest low w = (
-  w.0,
-  w.1,
-  w.2,
-  w.3,
-  (w.4.0, w.4.1, w.4.2, w.4.3, w.4.4, w.4.5, w.4.6, w.4.7, body_fit n m t.body w.4.6 rest (omega arith) w.4.8),
+  (
+    w.0.0,
+    w.0.1,
+    w.0.2,
+    w.0.3,
+    (w.0.4.0, w.0.4.1, w.0.4.2, w.0.4.3, w.0.4.4, w.0.4.5, w.0.4.6, w.0.4.7, body_fit n m t.body w.0.4.6 rest (omega arith) w.0.4.8),
+  ),
+  omega arith,
 )
-member_fit (suc n) (suc m) kinds.Empty xs rest low w = w
+member_fit (suc n) (suc m) kinds.Empty xs rest low w = (w.0, omega arith)
 
 members_fit : (n m : ℕ) (all : List Member) (xs rest : List Lexeme) → highest (map member_height all) ≤ m → Members (MemberWithin n) all xs rest
     → Members (MemberWithin m) all xs rest

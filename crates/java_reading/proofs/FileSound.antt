@@ -7,17 +7,17 @@ use Rattle.java_tokens.specs.declared.token.TokenKind.{TokenKind}
 use Rattle.java_tokens.specs.declared.token.TokenKind.TheVariants as k
 use Rattle.java_syntax.specs.declared.class.ClassTree.{ClassTree}
 use Rattle.java_syntax.specs.declared.class.Member.{Member}
-use Rattle.java_syntax.specs.Lexeme.{Lexeme, lexeme, Then, sees, sees_word}
+use Rattle.token_reading.specs.Lexeme.{Lexeme, lexeme, Then, sees, sees_word}
 use Rattle.java_syntax.specs.Classes.{MemberWithin, Public, Extends, Members, IsClass, ClassWithin}
 use Rattle.java_syntax.specs.Spells.{ClassesWithin, FileWithin}
-use Rattle.java_reading.specs.ReadType.{next}
+use Rattle.token_reading.specs.ReadType.{next}
 use Rattle.java_reading.specs.ReadClass.{member, public, extends, class_of, members, class_node, class, is_end, sees_end, classes, whole, file}
 use Rattle.java_reading.proofs.ArgsFacts.{ArgsFacts}
 use Rattle.java_reading.proofs.ExprFacts.{ExprFacts}
 use Rattle.java_reading.proofs.MemberSound.{member_sound}
-use Rattle.java_reading.proofs.SimpleSound.{Takes, MayTake, op_gives, word_gives, ident_gives, none_gives}
-use Rattle.java_reading.proofs.Steps.{Gives, gives, gives_none, gives_then, gives_map, gives_if}
-use Rattle.java_reading.proofs.Tokens.{then_length, from_sees, from_sees_word}
+use Rattle.token_reading.proofs.Steps.{Gives, gives, gives_none, gives_then, gives_map, gives_if}
+use Rattle.token_reading.proofs.Lexemes.{then_length, from_sees, from_sees_word}
+use Rattle.token_reading.proofs.Given.{Takes, MayTake, op_gives, word_gives, ident_gives, none_gives}
 
 public_gives : (xs : List Lexeme) → MayTake Public xs ⊥ (public xs)
 unfolding public

@@ -3,16 +3,16 @@ use Rattle.std.proofs.Common.{◌≡◌, ℕ, ◌+◌, ◌≤◌, max, List, [],
 use Rattle.java_tokens.specs.declared.token.Token.{Token}
 use Rattle.java_syntax.specs.declared.class.ClassTree.{ClassTree}
 use Rattle.java_syntax.specs.declared.class.FileTree.{FileTree}
-use Rattle.java_syntax.specs.Lexeme.{Lexeme, numbered}
+use Rattle.token_reading.specs.Lexeme.{Lexeme, numbered}
 use Rattle.java_syntax.specs.Spells.{FileWithin}
-use Rattle.java_reading.specs.Outcome.{no_tree, too_high, Outcome}
+use Rattle.token_reading.specs.Outcome.{no_tree, too_high, Outcome}
 use Rattle.java_reading.specs.FileLaws.{OneFile, FindsFiles, GivesFiles, RefusesFiles, RefusesHighFiles, FileHeightIsLeast}
 use Rattle.java_reading.specs.ReadClass.{file}
 use Rattle.java_reading.proofs.ArgsFacts.{args_facts}
 use Rattle.java_reading.proofs.FileFound.{file_found}
 use Rattle.java_reading.proofs.FileGrowing.{file_at_most, file_fit}
 use Rattle.java_reading.proofs.FileSound.{file_sound}
-use Rattle.java_reading.proofs.Steps.{Or, found, higher, Gives, gives, gives_none, gives_high}
+use Rattle.token_reading.proofs.Steps.{Or, found, higher, Gives, gives, gives_none, gives_high}
 use Rattle.java_reading.proofs.Whole.{expr_facts}
 
 length_numbered : (n : ℕ) (tokens : List Token) → length (numbered n tokens) ≡ length tokens

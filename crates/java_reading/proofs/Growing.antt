@@ -4,9 +4,10 @@ use Rattle.java_syntax.specs.declared.expression.Expr.{Expr, out-Expr, roll-Expr
 use Rattle.java_syntax.specs.declared.expression.Expr.TheOpen.{Expr-F}
 use Rattle.java_syntax.specs.declared.expression.Expr.TheViews.{out-roll-Expr, roll-out-Expr}
 use Rattle.java_syntax.specs.declared.expression.Expr.TheFolds.{fold-roll-Expr}
-use Rattle.java_syntax.specs.Lexeme.{Lexeme}
-use Rattle.java_syntax.specs.Exprs.{Layer, level, Args, MoreArgs, Node, Within}
-use Rattle.java_syntax.specs.Height.{highest, layer_height, expr_height}
+use Rattle.token_reading.specs.Lexeme.{Lexeme}
+use Rattle.java_syntax.specs.Exprs.{Layer, level, Args, MoreArgs, Node, inner_type_height, Within}
+use Rattle.java_syntax.specs.Height.{layer_height, expr_height}
+use Rattle.token_reading.specs.Height.{highest, type_height}
 
 -- the height of a node, by those of its parts
 abbrev height_by : Layer → ℕ
@@ -14,14 +15,14 @@ height_by (Expr-F.Call x given) = highest (map expr_height given) + 1
 height_by (Expr-F.Paren at a) = expr_height a + 1
 height_by (Expr-F.Super at x given) = highest (map expr_height given) + 1
 height_by (Expr-F.New at x given) = highest (map expr_height given) + 1
-height_by (Expr-F.NewArray at b size n) = expr_height size + 1
+height_by (Expr-F.NewArray at b size n) = max n (expr_height size) + 1
 height_by (Expr-F.Field a x) = expr_height a + 1
 height_by (Expr-F.Method a x given) = max (expr_height a) (highest (map expr_height given)) + 1
 height_by (Expr-F.Element a i) = max (expr_height a) (expr_height i) + 1
 height_by (Expr-F.Unary at op a) = expr_height a + 1
-height_by (Expr-F.Cast at t a) = expr_height a + 1
+height_by (Expr-F.Cast at t a) = max (type_height t) (expr_height a) + 1
 height_by (Expr-F.Binary op a b) = max (expr_height a) (expr_height b) + 1
-height_by (Expr-F.InstanceOf a t) = expr_height a + 1
+height_by (Expr-F.InstanceOf a t) = max (type_height t) (expr_height a) + 1
 height_by (Expr-F.Conditional c a b) = max (expr_height c) (max (expr_height a) (expr_height b)) + 1
 height_by _ = 1
 
@@ -58,21 +59,21 @@ module _ (n : ℕ) (Part : Expr → ℕ → List Lexeme → List Lexeme → Type
   args_low [] xs rest w = omega arith
   args_low (a ∷ more) xs rest w = omega (arith, low a 1 xs w.0 w.1, more_low more w.0 rest w.2)
 
-  node_low : (f : Layer) (xs rest : List Lexeme) → Node Part f xs rest → height_by f ≤ n + 1
-  node_low (Expr-F.Call x given) xs rest w = omega (arith, args_low given w.2 rest w.4)
-  node_low (Expr-F.Paren at a) xs rest w = omega (arith, low a 1 w.0 w.3 w.4)
-  node_low (Expr-F.Super at x given) xs rest w = omega (arith, args_low given w.6 rest w.8)
-  node_low (Expr-F.New at x given) xs rest w = omega (arith, args_low given w.4 rest w.6)
-  node_low (Expr-F.NewArray at b size k) xs rest w = omega (arith, low size 1 w.4 w.6 w.7)
-  node_low (Expr-F.Field a x) xs rest w = omega (arith, low a 14 xs w.0 w.1)
-  node_low (Expr-F.Method a x given) xs rest w = omega (arith, low a 14 xs w.0 w.1, args_low given w.6 rest w.8)
-  node_low (Expr-F.Element a i) xs rest w = omega (arith, low a 14 xs w.0 w.1, low i 1 w.2 w.4 w.5)
-  node_low (Expr-F.Unary at op a) xs rest w = omega (arith, low a 12 w.0 rest w.2)
-  node_low (Expr-F.Cast at t a) xs rest w = omega (arith, low a 13 w.5 rest w.7)
-  node_low (Expr-F.Binary op a b) xs rest w = omega (arith, low a _ xs w.0 w.1, low b _ w.2 rest w.4)
-  node_low (Expr-F.InstanceOf a t) xs rest w = omega (arith, low a 8 xs w.0 w.1)
-  node_low (Expr-F.Conditional c a b) xs rest w = omega (arith, low c 2 xs w.0 w.1, low a 1 w.2 w.4 w.5, low b 1 w.6 rest w.8)
-  node_low _ xs rest w = omega arith
+  node_low : (f : Layer) (xs rest : List Lexeme) → inner_type_height f ≤ n → Node Part f xs rest → height_by f ≤ n + 1
+  node_low (Expr-F.Call x given) xs rest fit w = omega (arith, args_low given w.2 rest w.4)
+  node_low (Expr-F.Paren at a) xs rest fit w = omega (arith, low a 1 w.0 w.3 w.4)
+  node_low (Expr-F.Super at x given) xs rest fit w = omega (arith, args_low given w.6 rest w.8)
+  node_low (Expr-F.New at x given) xs rest fit w = omega (arith, args_low given w.4 rest w.6)
+  node_low (Expr-F.NewArray at b size k) xs rest fit w = omega (arith, low size 1 w.4 w.6 w.7)
+  node_low (Expr-F.Field a x) xs rest fit w = omega (arith, low a 14 xs w.0 w.1)
+  node_low (Expr-F.Method a x given) xs rest fit w = omega (arith, low a 14 xs w.0 w.1, args_low given w.6 rest w.8)
+  node_low (Expr-F.Element a i) xs rest fit w = omega (arith, low a 14 xs w.0 w.1, low i 1 w.2 w.4 w.5)
+  node_low (Expr-F.Unary at op a) xs rest fit w = omega (arith, low a 12 w.0 rest w.2)
+  node_low (Expr-F.Cast at t a) xs rest fit w = omega (arith, low a 13 w.5 rest w.7)
+  node_low (Expr-F.Binary op a b) xs rest fit w = omega (arith, low a _ xs w.0 w.1, low b _ w.2 rest w.4)
+  node_low (Expr-F.InstanceOf a t) xs rest fit w = omega (arith, low a 8 xs w.0 w.1)
+  node_low (Expr-F.Conditional c a b) xs rest fit w = omega (arith, low c 2 xs w.0 w.1, low a 1 w.2 w.4 w.5, low b 1 w.6 rest w.8)
+  node_low _ xs rest fit w = omega arith
 
 as_layer : (e : Expr) → expr_height e ≡ height_by (out-Expr e)
 as_layer e = subst (λ (t : Expr). expr_height t ≡ height_by (out-Expr e)) (roll-out-Expr e) (height_is (out-Expr e))
@@ -80,7 +81,7 @@ as_layer e = subst (λ (t : Expr). expr_height t ≡ height_by (out-Expr e)) (ro
 pub at_most : (n : ℕ) (e : Expr) (l : ℕ) (xs rest : List Lexeme) → Within n e l xs rest → expr_height e ≤ n
 unfolding Within
 at_most zero e l xs rest w = absurd w
-at_most (suc n) e l xs rest w = omega (arith, as_layer e, node_low n (Within n) (at_most n) (out-Expr e) xs rest w.1)
+at_most (suc n) e l xs rest w = omega (arith, as_layer e, node_low n (Within n) (at_most n) (out-Expr e) xs rest w.2 w.1)
 
 -- ---- with each number that is no less than its height
 
@@ -125,7 +126,7 @@ unfolding Within
 some_height zero e l xs rest w = absurd w
 some_height (suc n) e l xs rest w = omega arith
 
-node_height : (f : Layer) → 1 ≤ height_by f
+node_height : (f : Layer) → inner_type_height f < height_by f
 node_height (Expr-F.Number at v) = omega arith
 node_height _ = omega arith
 
@@ -133,8 +134,11 @@ pub fitting : (n m : ℕ) (e : Expr) (l : ℕ) (xs rest : List Lexeme) → expr_
 unfolding Within
 fitting zero m e l xs rest low w = absurd w
 fitting (suc n) zero e l xs rest low w = absurd (omega (arith, as_layer e, node_height (out-Expr e)))
-fitting (suc n) (suc m) e l xs rest low w =
-    (w.0, node_fit m (Within n) (Within m) (fitting n m) (out-Expr e) xs rest (omega (arith, as_layer e)) w.1)
+fitting (suc n) (suc m) e l xs rest low w = (
+  w.0,
+  node_fit m (Within n) (Within m) (fitting n m) (out-Expr e) xs rest (omega (arith, as_layer e)) w.1,
+  omega (arith, as_layer e, node_height (out-Expr e)),
+)
 
 pub at_height : (n : ℕ) (e : Expr) (l : ℕ) (xs rest : List Lexeme) → Within n e l xs rest → Within (expr_height e) e l xs rest
 at_height n e l xs rest w = fitting n (expr_height e) e l xs rest (omega arith) w
@@ -147,7 +151,7 @@ grown n m up e l xs rest w = fitting n m e l xs rest (omega (arith, at_most n e 
 pub leveled : (n : ℕ) (e : Expr) (l m : ℕ) (xs rest : List Lexeme) → m ≤ level (out-Expr e) → Within n e l xs rest → Within n e m xs rest
 unfolding Within
 leveled zero e l m xs rest low w = absurd w
-leveled (suc n) e l m xs rest low w = (low, w.1)
+leveled (suc n) e l m xs rest low w = (low, w.1, w.2)
 
 -- ---- arguments, with parts of another height
 
@@ -163,12 +167,15 @@ module _ (Part Part' : Expr → ℕ → List Lexeme → List Lexeme → Type 0)
 
 -- ---- a node over trees of height n
 
-made_layer : (n : ℕ) (f : Layer) (l : ℕ) (xs rest : List Lexeme) → l ≤ level f → Node (Within n) f xs rest → Within (suc n) (roll-Expr f) l xs rest
+made_layer : (n : ℕ) (f : Layer) (l : ℕ) (xs rest : List Lexeme) → l ≤ level f → inner_type_height f ≤ n → Node (Within n) f xs rest
+    → Within (suc n) (roll-Expr f) l xs rest
 unfolding Within
-made_layer n f l xs rest low w =
-    let P : Layer → Type 0 = λ g. (l ≤ level g) × Node (Within n) g xs rest in subst P (sym (out-roll-Expr f)) (low, w)
+made_layer n f l xs rest low fit w =
+    let P : Layer → Type 0 = λ g. (l ≤ level g) × Node (Within n) g xs rest × (inner_type_height g ≤ n) in
+    subst P (sym (out-roll-Expr f)) (low, w, fit)
 
-pub made : (n h : ℕ) (f : Layer) (e : Expr) (l : ℕ) (xs rest : List Lexeme) → n < h → roll-Expr f ≡ e → l ≤ level f → Node (Within n) f xs rest
-    → Within h e l xs rest
-made n h f e l xs rest up is low w =
-    let P : Expr → Type 0 = λ t. Within h t l xs rest in subst P is (grown (suc n) h (omega arith) (roll-Expr f) l xs rest (made_layer n f l xs rest low w))
+pub made : (n h : ℕ) (f : Layer) (e : Expr) (l : ℕ) (xs rest : List Lexeme) → n < h → roll-Expr f ≡ e → l ≤ level f
+    → inner_type_height f ≤ n → Node (Within n) f xs rest → Within h e l xs rest
+made n h f e l xs rest up is low fit w =
+    let P : Expr → Type 0 = λ t. Within h t l xs rest in
+    subst P is (grown (suc n) h (omega arith) (roll-Expr f) l xs rest (made_layer n f l xs rest low fit w))

@@ -4,32 +4,36 @@ use Rattle.java_tokens.specs.declared.token.Keyword.TheVariants as w
 use Rattle.java_tokens.specs.declared.token.Operator.TheVariants as o
 use Rattle.java_tokens.specs.declared.token.TokenKind.{TokenKind}
 use Rattle.java_tokens.specs.declared.token.TokenKind.TheVariants as k
-use Rattle.java_syntax.specs.declared.name.Ident.{Ident}
-use Rattle.java_syntax.specs.declared.name.TypeTree.{TypeTree}
+use Rattle.token_reading.specs.declared.name.Ident.{Ident}
+use Rattle.token_reading.specs.declared.name.TypeTree.{TypeTree}
 use Rattle.java_syntax.specs.declared.operator.BinaryOp.{BinaryOp}
 use Rattle.java_syntax.specs.declared.operator.BinaryOp.TheVariants as binary
 use Rattle.java_syntax.specs.declared.expression.Expr.{Expr}
 use Rattle.java_syntax.specs.declared.expression.Expr.TheVariants as e
-use Rattle.java_syntax.specs.Lexeme.{Lexeme, Then, sees}
-use Rattle.java_syntax.specs.Types.{IsIdent, IsType}
+use Rattle.token_reading.specs.Lexeme.{Lexeme, Then, sees}
+use Rattle.token_reading.specs.Types.{IsIdent, IsType}
+use Rattle.token_reading.specs.Height.{type_height}
+use Rattle.token_reading.specs.ReadType.{type_tree}
 use Rattle.java_syntax.specs.Exprs.{binary_sign, binary_level}
 use Rattle.java_reading.specs.declared.infix.Infix.TheVariants as i
-use Rattle.java_reading.specs.Outcome.{too_high, Outcome}
+use Rattle.token_reading.specs.Outcome.{too_high, Outcome}
 use Rattle.java_reading.specs.ReadExpr.{Tall, infix_operator, infix_of, binds, follows, behind, climb, operated, instance_of, conditional, member, element, reading}
-use Rattle.java_reading.proofs.Tests.{not_below, from_below, from_not_below}
-use Rattle.java_reading.proofs.Tokens.{sees_it, expect_it, ident_read, type_read}
+use Rattle.token_reading.proofs.Tests.{not_below, from_below, from_not_below}
+use Rattle.token_reading.proofs.Lexemes.{sees_it, expect_it, ident_read, type_low}
+use Rattle.token_reading.proofs.Found.{type_or}
+use Rattle.token_reading.proofs.Steps.{Or, found, higher as over_limit}
 use Rattle.java_reading.proofs.Levels.{looser}
 use Rattle.java_reading.proofs.Claims.{Done, done, over, Goes, goes, higher, ArgsDone, args_done, args_over}
 
--- What reading behind an operand of height h comes to.
+-- What reading after an operand of height h comes to.
 pub data Grows (n b h : ℕ) (r : Outcome Tall) (new : Expr) (rest : List Lexeme) : Type 0 where
   grows : (h' : ℕ) → h < h' → h' ≤ suc n → h' ≤ suc b → r ≡ Ok ((new, h'), rest) → Grows n b h r new rest
   outgrows : b < n → r ≡ Err too_high → Grows n b h r new rest
 
 turned : (n b l : ℕ) (a new : Expr) (kd : TokenKind) (xs ys zs rest : List Lexeme) → l ≤ binds (infix_of kd)
-    → (h fuel : ℕ) → h ≤ n → h ≤ suc b → suc b < fuel + h → reading (suc b) l xs ≡ climb (reading b) l (suc b) fuel (a, h) ys
+    → (h fuel : ℕ) → h ≤ n → h ≤ suc b → suc b < fuel + h → reading (suc b) l xs ≡ climb b (reading b) l fuel (a, h) ys
     → Then kd ys zs
-    → ((h : ℕ) → h ≤ n → h ≤ b → Grows n b h (behind (reading b) (a, h) (infix_of kd) zs) new rest)
+    → ((h : ℕ) → h ≤ n → h ≤ b → Grows n b h (behind b (reading b) (a, h) (infix_of kd) zs) new rest)
     → (lower : Bool) → nat_lt h (suc b) ≡ lower → Goes (suc n) b l new xs rest
 unfolding climb
 turned n b l a new kd xs ys zs rest low h zero hn hb hf r t go lower test = absurd (omega arith)
@@ -46,7 +50,7 @@ turned n b l a new kd xs ys zs rest low h (suc fuel) hn hb hf r t go true test =
 -- One more turn, by a token that binds as tightly as the level.
 turn : (n b l : ℕ) (a new : Expr) (kd : TokenKind) (xs ys zs rest : List Lexeme) → l ≤ binds (infix_of kd)
     → Goes n b l a xs ys → Then kd ys zs
-    → ((h : ℕ) → h ≤ n → h ≤ b → Grows n b h (behind (reading b) (a, h) (infix_of kd) zs) new rest)
+    → ((h : ℕ) → h ≤ n → h ≤ b → Grows n b h (behind b (reading b) (a, h) (infix_of kd) zs) new rest)
     → Goes (suc n) b l new xs rest
 turn n b l a new kd xs ys zs rest low (goes h fuel hn hb hf r) t go = turned n b l a new kd xs ys zs rest low h fuel hn hb hf r t go (nat_lt h (suc b)) refl
 turn n b l a new kd xs ys zs rest low (higher hn r) t go = higher (omega arith) r
@@ -70,18 +74,20 @@ binary_goes n b l op a c xs ys zs rest low left t right =
     turn n b l a (e.Binary op a c) (k.Op (binary_sign op)) xs ys zs rest (rw (infix_sign op) low) left t
     (λ h hn hb. rw (infix_sign op) (binary_grows n b h op a c zs rest hn hb right))
 
-test_grows : (n b h : ℕ) (a : Expr) (t : TypeTree) (zs rest : List Lexeme) → h ≤ n → h ≤ b → IsType t zs rest → follows rest ≤ 8
-    → Grows n b h (instance_of (reading b) (a, h) zs) (e.InstanceOf a t) rest
+test_by : (n b h : ℕ) (a : Expr) (t : TypeTree) (zs rest : List Lexeme) → h ≤ n → h ≤ b → type_height t ≤ n → follows rest ≤ 8
+    → Or n b (type_tree b zs) (Ok (t, rest)) → Grows n b h (instance_of b (reading b) (a, h) zs) (e.InstanceOf a t) rest
 unfolding instance_of
-test_grows n b h a t zs rest hn hb w loose =
-    grows (h + 1) (omega arith) (omega arith) (omega arith)
-    (rw (type_read t zs rest w (looser o.LeftBracket rest (omega arith)), not_below 8 (follows rest) loose) refl)
+test_by n b h a t zs rest hn hb fit loose (found v) =
+    grows (max (type_height t) h + 1) (omega arith) (omega arith) (omega (arith, type_low b t zs rest v))
+    (rw (v, not_below 8 (follows rest) loose) refl)
+test_by n b h a t zs rest hn hb fit loose (over_limit up v) = outgrows up (rw v refl)
 
 pub test_goes : (n b l : ℕ) (a : Expr) (t : TypeTree) (xs ys zs rest : List Lexeme) → l ≤ 8
-    → Goes n b l a xs ys → Then (k.Word w.Instanceof) ys zs → IsType t zs rest → follows rest ≤ 8
+    → Goes n b l a xs ys → Then (k.Word w.Instanceof) ys zs → IsType t zs rest → follows rest ≤ 8 → type_height t ≤ n
     → Goes (suc n) b l (e.InstanceOf a t) xs rest
-test_goes n b l a t xs ys zs rest low left u v loose =
-    turn n b l a (e.InstanceOf a t) (k.Word w.Instanceof) xs ys zs rest low left u (λ h hn hb. test_grows n b h a t zs rest hn hb v loose)
+test_goes n b l a t xs ys zs rest low left u v loose fit =
+    turn n b l a (e.InstanceOf a t) (k.Word w.Instanceof) xs ys zs rest low left u
+    (λ h hn hb. test_by n b h a t zs rest hn hb fit loose (type_or n b t zs rest v (looser o.LeftBracket rest (omega arith)) fit))
 
 conditional_grows : (n b h : ℕ) (c x y : Expr) (zs us vs rest : List Lexeme) → h ≤ n → h ≤ b
     → Done n b 1 x zs us → Then (k.Op o.Colon) us vs → Done n b 1 y vs rest

@@ -1,4 +1,4 @@
--- What may stand behind a tree of a level.
+-- What may stand after a tree of a level.
 use Rattle.std.proofs.Common.{◌≡◌, ◌≢◌, ℕ, zero, suc, ◌≤◌, ◌<◌, List, [], ◌∷◌, Bool, true, false, refl, ap, arith}
 use Rattle.java_tokens.specs.declared.token.Keyword.{Keyword}
 use Rattle.java_tokens.specs.declared.token.Keyword.TheVariants as w
@@ -12,12 +12,12 @@ use Rattle.java_syntax.specs.declared.operator.UnaryOp.{UnaryOp}
 use Rattle.java_syntax.specs.declared.operator.UnaryOp.TheVariants as unary
 use Rattle.java_syntax.specs.declared.expression.Expr.{Expr, out-Expr}
 use Rattle.java_syntax.specs.declared.expression.Expr.TheOpen.{Expr-F}
-use Rattle.java_syntax.specs.Lexeme.{Lexeme, same_operator, is_operator, sees}
+use Rattle.token_reading.specs.Lexeme.{Lexeme, same_operator, is_operator, sees}
 use Rattle.java_syntax.specs.Exprs.{Layer, binary_level, unary_level, level, Within}
 use Rattle.java_reading.specs.ReadExpr.{infix_operator, infix_keyword, infix_of, binds, follows}
-use Rattle.java_reading.proofs.Tokens.{from_sees}
+use Rattle.token_reading.proofs.Lexemes.{from_sees}
 
--- how tightly the token behind a tree may bind at most
+-- how tightly the token after a tree may bind at most
 abbrev pub after : Layer → ℕ
 after (Expr-F.Conditional c a b) = 0
 after (Expr-F.Binary op a b) = binary_level op
@@ -51,7 +51,7 @@ ends (Expr-F.Unary at op a) l c h low gap = omega (arith, (unary_range op).1)
 ends (Expr-F.Cast at t a) l c h low gap = omega arith
 ends _ l c h low gap = omega arith
 
--- an operator behind its left operand
+-- an operator after its left operand
 pub joins : (f : Layer) (l c : ℕ) → l ≤ level f → c ≤ l → 2 ≤ c → c ≤ 11 → c ≤ after f
 joins (Expr-F.Conditional x a b) l c h up low high = omega arith
 joins (Expr-F.Binary op a b) l c h up low high = omega arith
@@ -60,7 +60,7 @@ joins (Expr-F.Unary at op a) l c h up low high = omega arith
 joins (Expr-F.Cast at t a) l c h up low high = omega arith
 joins _ l c h up low high = omega arith
 
--- a suffix behind what it belongs to
+-- a suffix after what it belongs to
 pub hangs : (f : Layer) (c : ℕ) → 14 ≤ level f → c ≤ 14 → c ≤ after f
 hangs (Expr-F.Conditional x a b) c h up = omega arith
 hangs (Expr-F.Binary op a b) c h up = omega (arith, (binary_range op).1)
@@ -136,7 +136,7 @@ stop_kind (k.Op s) h = stop_operator s h
 stop_kind (k.Word s) h = stop_keyword s
 stop_kind _ h = omega arith
 
--- behind a name that is no call
+-- after a name that is no call
 pub name_stop : (xs : List Lexeme) → sees o.LeftParen xs ≡ false → follows xs ≤ 14
 name_stop [] h = omega arith
 name_stop (x ∷ xs) h = stop_kind x.kind h

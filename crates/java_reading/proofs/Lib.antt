@@ -26,7 +26,6 @@ pub mod SoundArgs
 pub mod SoundInfix
 pub mod SoundNew
 pub mod SoundPrefix
-pub mod Steps
 pub mod StmtBegins
 pub mod StmtFound
 pub mod StmtGrowing
@@ -34,7 +33,5 @@ pub mod StmtLengths
 pub mod StmtRows
 pub mod StmtSound
 pub mod StmtWhole
-pub mod Tests
-pub mod Tokens
 pub mod Whole
 pub mod Written

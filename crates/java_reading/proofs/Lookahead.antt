@@ -5,10 +5,10 @@ use Rattle.java_syntax.specs.declared.operator.BinaryOp.{BinaryOp}
 use Rattle.java_syntax.specs.declared.operator.BinaryOp.TheVariants as binary
 use Rattle.java_syntax.specs.declared.expression.Expr.{Expr, out-Expr}
 use Rattle.java_syntax.specs.declared.expression.Expr.TheOpen.{Expr-F}
-use Rattle.java_syntax.specs.Lexeme.{Lexeme}
+use Rattle.token_reading.specs.Lexeme.{Lexeme}
 use Rattle.java_syntax.specs.Exprs.{Layer, binary_sign, truth, Node, Within}
-use Rattle.java_reading.specs.ReadType.{declares_by, declares, local_by, is_local}
 use Rattle.java_reading.proofs.Begins.{Begins, within_begins, no_bracket}
+use Rattle.java_reading.specs.Lookahead.{declares_by, declares, local_by, is_local}
 
 sign_declares : (op : BinaryOp) (xs : List Lexeme) → declares_by (k.Op (binary_sign op)) xs ≡ false
 sign_declares binary.Or xs = refl

@@ -12,45 +12,36 @@ use Rattle.java_syntax.specs.declared.class.MethodTree.{MethodTree}
 use Rattle.java_syntax.specs.declared.class.Modifier.{Modifier}
 use Rattle.java_syntax.specs.declared.class.Modifier.TheVariants as modifier
 use Rattle.java_syntax.specs.declared.class.Mods.{Mods}
-use Rattle.java_syntax.specs.declared.class.ParamTree.{ParamTree}
+use Rattle.token_reading.specs.declared.name.ParamTree.{ParamTree}
 use Rattle.java_syntax.specs.declared.expression.Expr.{Expr}
-use Rattle.java_syntax.specs.declared.name.BaseType.{BaseType}
-use Rattle.java_syntax.specs.declared.name.BaseType.TheVariants as base
-use Rattle.java_syntax.specs.declared.name.Ident.{Ident}
-use Rattle.java_syntax.specs.declared.name.TypeTree.{TypeTree}
+use Rattle.token_reading.specs.declared.name.BaseType.{BaseType}
+use Rattle.token_reading.specs.declared.name.BaseType.TheVariants as base
+use Rattle.token_reading.specs.declared.name.Ident.{Ident}
+use Rattle.token_reading.specs.declared.name.TypeTree.{TypeTree}
 use Rattle.java_syntax.specs.declared.statement.Stmt.{Stmt}
-use Rattle.java_syntax.specs.Lexeme.{Lexeme, lexeme, Then, sees, sees_word, same_operator, same_keyword}
-use Rattle.java_syntax.specs.Types.{IsIdent, Brackets, IsBase}
+use Rattle.token_reading.specs.Lexeme.{Lexeme, lexeme, Then, sees, sees_word, same_operator, same_keyword}
+use Rattle.token_reading.specs.Types.{IsIdent, Brackets, IsBase}
+use Rattle.token_reading.specs.Height.{params_height}
 use Rattle.java_syntax.specs.Exprs.{Within}
 use Rattle.java_syntax.specs.Stmts.{Initial, UnendedWithin, Stmts, StmtWithin}
-use Rattle.java_syntax.specs.Classes.{modifier_word, Modifiers, Param, MoreParams, Params, MoreNames, Throws, Answer, Invocable, MemberNode, MemberWithin}
+use Rattle.java_syntax.specs.Classes.{modifier_word, Modifiers, MoreNames, Throws, Answer, Invocable, MemberNode, answer_height, member_type_height, MemberWithin}
 use Rattle.java_reading.specs.ReadStmt.{value, body}
-use Rattle.java_reading.specs.ReadClass.{modifier_at, modifiers, param, more_params, params, names, throws, maker_of, is_maker, maker, method, field, void_method, constructor, typed, declared, member_node, member}
+use Rattle.java_reading.specs.ReadClass.{modifier_at, modifiers, names, throws, maker_of, is_maker, maker, method, field, void_method, constructor, typed, declared, member_node, member}
 use Rattle.java_reading.proofs.ArgsFacts.{ArgsFacts}
 use Rattle.java_reading.proofs.ExprFacts.{ExprFacts}
-use Rattle.java_reading.proofs.SimpleFound.{op_or, ident_or, type_or, semicolon_closes, initial_or}
+use Rattle.java_reading.proofs.SimpleFound.{semicolon_closes, initial_or}
 use Rattle.java_reading.proofs.StmtBegins.{initial_length}
 use Rattle.java_reading.proofs.StmtFound.{stmt_found, body_or}
-use Rattle.java_reading.proofs.StmtLengths.{none_or, stmts_length, stmt_length}
-use Rattle.java_reading.proofs.Steps.{Or, found, or_then, raise}
-use Rattle.java_reading.proofs.Tokens.{then_length, sees_it, sees_word_it, type_length}
+use Rattle.java_reading.proofs.StmtLengths.{stmts_length, stmt_length}
+use Rattle.token_reading.proofs.Steps.{Or, found, or_then, raise}
+use Rattle.token_reading.proofs.Lexemes.{then_length, sees_it, sees_word_it, type_length}
+use Rattle.token_reading.proofs.Found.{params_length, op_or, ident_or, named_type_or, none_or, params_or}
 
 -- ---- lengths
 
 pub modifiers_length : (all : List Modifier) (xs rest : List Lexeme) → Modifiers all xs rest → length all + length rest ≤ length xs
 modifiers_length [] xs rest w = omega (arith, ap length w)
 modifiers_length (m ∷ more) xs rest w = omega (arith, then_length _ xs w.0 w.1, modifiers_length more w.0 rest w.2)
-
-pub param_length : (t : ParamTree) (xs rest : List Lexeme) → Param t xs rest → length rest < length xs
-param_length t xs rest w = omega (arith, type_length t.ty xs w.0 w.1, ap length w.2)
-
-pub more_params_length : (all : List ParamTree) (xs rest : List Lexeme) → MoreParams all xs rest → length all + length rest < length xs
-more_params_length [] xs rest t = omega (arith, then_length _ xs rest t)
-more_params_length (t ∷ more) xs rest w = omega (arith, then_length _ xs w.0 w.1, param_length t w.0 w.2 w.3, more_params_length more w.2 rest w.4)
-
-pub params_length : (all : List ParamTree) (xs rest : List Lexeme) → Params all xs rest → length all + length rest < length xs
-params_length [] xs rest t = omega (arith, then_length _ xs rest t)
-params_length (t ∷ more) xs rest w = omega (arith, param_length t xs w.0 w.1, more_params_length more w.0 rest w.2)
 
 pub more_names_length : (all : List Ident) (xs rest : List Lexeme) → MoreNames all xs rest → length all + length rest ≤ length xs
 more_names_length [] xs rest w = omega (arith, ap length w)
@@ -62,7 +53,7 @@ throws_length (x ∷ more) xs rest w = omega (arith, then_length _ xs w.0 w.1, a
 
 pub answer_length : (t : Option TypeTree) (xs rest : List Lexeme) → Answer t xs rest → length rest < length xs
 answer_length None xs rest t = omega (arith, then_length _ xs rest t)
-answer_length (Some t) xs rest w = type_length t xs rest w
+answer_length (Some t) xs rest w = omega (arith, type_length t xs rest w)
 
 module _ (facts : ExprFacts) (n : ℕ) where
   invocable_length : (params : List ParamTree) (throws : List Ident) (body : List Stmt) (xs rest : List Lexeme)
@@ -102,7 +93,7 @@ module _ (facts : ExprFacts) (n : ℕ) where
 
 pub member_length : ExprFacts → (n : ℕ) (t : Member) (xs rest : List Lexeme) → MemberWithin n t xs rest → length rest < length xs
 member_length facts zero t xs rest w = absurd w
-member_length facts (suc n) t xs rest w = node_length facts n t xs rest w
+member_length facts (suc n) t xs rest w = node_length facts n t xs rest w.0
 
 -- ---- first tokens
 
@@ -113,7 +104,7 @@ modifier_it modifier.Private at xs = refl
 modifier_it modifier.Static at xs = refl
 modifier_it modifier.Final at xs = refl
 
--- what may stand behind modifiers: no modifier, and no operator
+-- what may stand after modifiers: no modifier, and no operator
 pub record Declares (xs : List Lexeme) : Type 0 where
   pub no_modifier : modifier_at xs ≡ None
   pub no_operator : (s : Operator) → sees s xs ≡ false
@@ -173,29 +164,6 @@ module _ (n b : ℕ) where
       let h = modifiers_or more fuel (done ++ m ∷ []) w.0 rest (omega arith) w.2 d in
       rw (w.1.1, modifier_it m w.1.0 w.0) (rw append_assoc at h)
 
-  param_or : (t : ParamTree) (xs rest : List Lexeme) → Param t xs rest → Or n b (param xs) (Ok (t, rest))
-  unfolding param
-  param_or t xs rest w = or_then _ (type_or n b t.ty t.name xs w.0 rest w.1 w.2) (or_then _ (ident_or n b t.name w.0 rest w.2) (found refl))
-
-  more_params_or : (more : List ParamTree) (fuel : ℕ) (done : List ParamTree) (t : ParamTree) (xs ys rest : List Lexeme) → length more < fuel
-      → Param t xs ys → MoreParams more ys rest → Or n b (more_params fuel done xs) (Ok (done ++ t ∷ more, rest))
-  unfolding more_params same_operator
-  more_params_or more zero done t xs ys rest room w ws = absurd (omega arith)
-  more_params_or [] (suc fuel) done t xs ys rest room w ws =
-      or_then _ (param_or t xs ys w) (rw ws.1 (or_then _ (op_or n b o.RightParen _ rest (ws.0, refl)) (found refl)))
-  more_params_or (u ∷ more) (suc fuel) done t xs ys rest room w ws =
-      let h = more_params_or more fuel (done ++ t ∷ []) u ws.0 ws.2 rest (omega arith) ws.3 ws.4 in
-      or_then _ (param_or t xs ys w) (rw ws.1.1 (rw append_assoc at h))
-
-  params_or : (all : List ParamTree) (xs ys rest : List Lexeme) → Then (k.Op o.LeftParen) xs ys → Params all ys rest
-      → Or n b (params xs) (Ok (all, rest))
-  unfolding params
-  params_or [] xs ys rest t u = or_then _ (op_or n b o.LeftParen xs ys t) (rw (u.1, sees_it o.RightParen u.0 rest) (found refl))
-  params_or (p ∷ more) xs ys rest t w =
-      or_then _ (op_or n b o.LeftParen xs ys t)
-      (rw ((base_declares p.ty.base ys w.1.1.0 w.1.1.1).no_operator o.RightParen)
-      (more_params_or more (length ys) [] p ys w.0 rest (omega (arith, param_length p ys w.0 w.1, more_params_length more w.0 rest w.2)) w.1 w.2))
-
   names_or : (more : List Ident) (fuel : ℕ) (done : List Ident) (x : Ident) (xs ys rest : List Lexeme) → length more < fuel → IsIdent x xs ys
       → MoreNames more ys rest
       → sees o.Comma rest ≡ false → Or n b (names fuel done xs) (Ok (done ++ x ∷ more, rest))
@@ -221,21 +189,21 @@ module _ (facts : ExprFacts) (args_facts : ArgsFacts) (n b : ℕ) where
   in_body all xs rest w = body_or facts args_facts n b (stmt_found facts args_facts n b) all xs rest w
 
   maker_or : (mods : Mods) (name : Ident) (ps : List ParamTree) (ts : List Ident) (all : List Stmt) (xs rest : List Lexeme)
-      → Invocable (Within n) (Stmts (Within n) (UnendedWithin n) (StmtWithin n)) ps ts all xs rest
-      → Or n b (maker (value b) (body b) mods name xs) (Ok (maker_of mods name ps ts all, rest))
+      → params_height ps ≤ n → Invocable (Within n) (Stmts (Within n) (UnendedWithin n) (StmtWithin n)) ps ts all xs rest
+      → Or n b (maker b (value b) (body b) mods name xs) (Ok (maker_of mods name ps ts all, rest))
   unfolding maker
-  maker_or mods name ps ts all xs rest w =
-      or_then _ (params_or n b ps xs w.0 w.2 w.1 w.3) (or_then _ (throws_or n b ts w.2 w.4 w.6 w.5 w.7)
+  maker_or mods name ps ts all xs rest fit w =
+      or_then _ (params_or n b ps xs w.0 w.2 w.1 w.3 fit) (or_then _ (throws_or n b ts w.2 w.4 w.6 w.5 w.7)
       (or_then _ (op_or n b o.LeftBrace w.4 w.6 w.7) (or_then _ (in_body all w.6 rest w.8) (found refl))))
 
-  method_or : (t : MethodTree) (xs rest : List Lexeme)
+  method_or : (t : MethodTree) (xs rest : List Lexeme) → params_height t.params ≤ n
       → Invocable (Within n) (Stmts (Within n) (UnendedWithin n) (StmtWithin n)) t.params t.throws t.body xs rest
-      → Or n b (method (value b) (body b) t.mods t.answer t.name xs) (Ok (kinds.Method t, rest))
+      → Or n b (method b (value b) (body b) t.mods t.answer t.name xs) (Ok (kinds.Method t, rest))
   unfolding method
-  method_or t xs rest w = or_then _ (maker_or t.mods t.name t.params t.throws t.body xs rest w) (found refl)
+  method_or t xs rest fit w = or_then _ (maker_or t.mods t.name t.params t.throws t.body xs rest fit w) (found refl)
 
   field_or : (t : FieldTree) (xs ys rest : List Lexeme) → Initial (Within n) t.value xs ys → Then (k.Op o.Semicolon) ys rest
-      → Or n b (field (value b) (body b) t.mods t.ty t.name xs) (Ok (kinds.Field t, rest))
+      → Or n b (field b (value b) (body b) t.mods t.ty t.name xs) (Ok (kinds.Field t, rest))
   unfolding field
   field_or t xs ys rest w u =
       or_then _ (initial_or facts n b t.value xs ys w (semicolon_closes ys rest u)) (or_then _ (op_or n b o.Semicolon ys rest u) (found refl))
@@ -250,45 +218,45 @@ module _ (facts : ExprFacts) (args_facts : ArgsFacts) (n b : ℕ) where
   initial_no_paren None xs ys rest w u = rw (w, u.1) refl
   initial_no_paren (Some e) xs ys rest w u = rw w.1.1 refl
 
-  -- a method behind its modifiers
+  -- a method after its modifiers
   answered_or : (t : MethodTree) (answer : Option TypeTree) (ys zs us rest : List Lexeme) → t.answer ≡ answer → Answer answer ys zs
-      → IsIdent t.name zs us
+      → IsIdent t.name zs us → answer_height answer ≤ n → params_height t.params ≤ n
       → Invocable (Within n) (Stmts (Within n) (UnendedWithin n) (StmtWithin n)) t.params t.throws t.body us rest
-      → Or n b (declared (value b) (body b) t.mods ys) (Ok (kinds.Method t, rest))
+      → Or n b (declared b (value b) (body b) t.mods ys) (Ok (kinds.Method t, rest))
   unfolding declared void_method typed
-  answered_or t None ys zs us rest is w named inv =
-      let h = subst (λ (a : Option TypeTree). Or n b (method (value b) (body b) t.mods a t.name us) (Ok (kinds.Method t, rest))) is
-      (method_or t us rest inv) in
+  answered_or t None ys zs us rest is w named low fit inv =
+      let h = subst (λ (a : Option TypeTree). Or n b (method b (value b) (body b) t.mods a t.name us) (Ok (kinds.Method t, rest))) is
+      (method_or t us rest fit inv) in
       rw (w.1, sees_word_it word.Void w.0 zs) (or_then _ (ident_or n b t.name zs us named) h)
-  answered_or t (Some a) ys zs us rest is w named inv =
-      let h = subst (λ (a : Option TypeTree). Or n b (method (value b) (body b) t.mods a t.name us) (Ok (kinds.Method t, rest))) is
-      (method_or t us rest inv) in
+  answered_or t (Some a) ys zs us rest is w named low fit inv =
+      let h = subst (λ (a : Option TypeTree). Or n b (method b (value b) (body b) t.mods a t.name us) (Ok (kinds.Method t, rest))) is
+      (method_or t us rest fit inv) in
       rw (base_no_void a.base ys w.0 w.1, base_no_maker a.base t.name a.dimensions ys w.0 zs us w.1 w.2 named)
-      (or_then _ (type_or n b a t.name ys zs us w named) (or_then _ (ident_or n b t.name zs us named)
+      (or_then _ (named_type_or n b a t.name ys zs us w low named) (or_then _ (ident_or n b t.name zs us named)
       (rw (invocable_paren t.params t.throws t.body us rest inv) h)))
 
-  node_or : (t : Member) (xs rest : List Lexeme) → MemberNode (Within n) (Stmts (Within n) (UnendedWithin n) (StmtWithin n)) t xs rest
-      → Or n b (member_node (value b) (body b) xs) (Ok (t, rest))
+  node_or : (t : Member) (xs rest : List Lexeme) → member_type_height t ≤ n → MemberNode (Within n) (Stmts (Within n) (UnendedWithin n) (StmtWithin n)) t xs rest
+      → Or n b (member_node b (value b) (body b) xs) (Ok (t, rest))
   unfolding member_node declared typed constructor
-  node_or (kinds.Field t) xs rest w =
+  node_or (kinds.Field t) xs rest fit w =
       let d = base_declares t.ty.base w.0 w.3.0 w.3.1 in
       rw (modifiers_other o.Semicolon t.mods.words xs w.0 w.1 d)
       (or_then _ (modifiers_or n b t.mods.words (length xs) [] xs w.0 (omega (arith, modifiers_length t.mods.words xs w.0 w.1)) w.1 d)
       (rw (base_no_void t.ty.base w.0 w.3.0 w.3.1, base_no_maker t.ty.base t.name t.ty.dimensions w.0 w.3.0 w.2 w.4 w.3.1 w.3.2 w.5)
-      (or_then _ (type_or n b t.ty t.name w.0 w.2 w.4 w.3 w.5) (or_then _ (ident_or n b t.name w.2 w.4 w.5)
+      (or_then _ (named_type_or n b t.ty t.name w.0 w.2 w.4 w.3 fit w.5) (or_then _ (ident_or n b t.name w.2 w.4 w.5)
       (rw (initial_no_paren t.value w.4 w.6 rest w.7 w.8) (field_or t w.4 w.6 rest w.7 w.8))))))
-  node_or (kinds.Method t) xs rest w =
+  node_or (kinds.Method t) xs rest fit w =
       let d = answer_declares t.answer w.0 w.2 w.3 in
       rw (modifiers_other o.Semicolon t.mods.words xs w.0 w.1 d)
       (or_then _ (modifiers_or n b t.mods.words (length xs) [] xs w.0 (omega (arith, modifiers_length t.mods.words xs w.0 w.1)) w.1 d)
-      (answered_or t t.answer w.0 w.2 w.4 rest refl w.3 w.5 w.6))
-  node_or (kinds.Maker t) xs rest w =
+      (answered_or t t.answer w.0 w.2 w.4 rest refl w.3 w.5 (omega arith) (omega arith) w.6))
+  node_or (kinds.Maker t) xs rest fit w =
       let d = ident_declares t.name w.0 w.2 w.3 in
       rw (modifiers_other o.Semicolon t.mods.words xs w.0 w.1 d)
       (or_then _ (modifiers_or n b t.mods.words (length xs) [] xs w.0 (omega (arith, modifiers_length t.mods.words xs w.0 w.1)) w.1 d)
       (rw (ident_no_void t.name w.0 w.2 w.3, ident_maker t.name w.0 w.2 w.3 (invocable_paren t.params t.throws t.body w.2 rest w.4))
-      (or_then _ (ident_or n b t.name w.0 w.2 w.3) (or_then _ (maker_or t.mods t.name t.params t.throws t.body w.2 rest w.4) (found refl)))))
-  node_or kinds.Empty xs rest t = rw (t.1, sees_it o.Semicolon t.0 rest) (found refl)
+      (or_then _ (ident_or n b t.name w.0 w.2 w.3) (or_then _ (maker_or t.mods t.name t.params t.throws t.body w.2 rest fit w.4) (found refl)))))
+  node_or kinds.Empty xs rest fit t = rw (t.1, sees_it o.Semicolon t.0 rest) (found refl)
 
 -- A member that is written is found, or it is higher than the budget.
 pub member_found : ExprFacts → ArgsFacts → (n b : ℕ) (t : Member) (xs rest : List Lexeme) → MemberWithin n t xs rest
@@ -296,13 +264,13 @@ pub member_found : ExprFacts → ArgsFacts → (n b : ℕ) (t : Member) (xs rest
 unfolding member
 member_found facts args_facts zero b t xs rest w = absurd w
 member_found facts args_facts (suc n) zero t xs rest w = none_or n xs (Ok (t, rest)) (omega (arith, member_length facts (suc n) t xs rest w))
-member_found facts args_facts (suc n) (suc b) t xs rest w = raise (node_or facts args_facts n b t xs rest w)
+member_found facts args_facts (suc n) (suc b) t xs rest w = raise (node_or facts args_facts n b t xs rest w.1 w.0)
 
 -- a member doesn't begin with another operator than `;`
 pub member_other : (n : ℕ) (s : Operator) (t : Member) (xs rest : List Lexeme) → MemberWithin n t xs rest → same_operator o.Semicolon s ≡ false
     → sees s xs ≡ false
 member_other zero s t xs rest w other = absurd w
-member_other (suc n) s (kinds.Field t) xs rest w other = modifiers_other s t.mods.words xs w.0 w.1 (base_declares t.ty.base w.0 w.3.0 w.3.1)
-member_other (suc n) s (kinds.Method t) xs rest w other = modifiers_other s t.mods.words xs w.0 w.1 (answer_declares t.answer w.0 w.2 w.3)
-member_other (suc n) s (kinds.Maker t) xs rest w other = modifiers_other s t.mods.words xs w.0 w.1 (ident_declares t.name w.0 w.2 w.3)
-member_other (suc n) s kinds.Empty xs rest t other = rw t.1 other
+member_other (suc n) s (kinds.Field t) xs rest w other = modifiers_other s t.mods.words xs w.0.0 w.0.1 (base_declares t.ty.base w.0.0 w.0.3.0 w.0.3.1)
+member_other (suc n) s (kinds.Method t) xs rest w other = modifiers_other s t.mods.words xs w.0.0 w.0.1 (answer_declares t.answer w.0.0 w.0.2 w.0.3)
+member_other (suc n) s (kinds.Maker t) xs rest w other = modifiers_other s t.mods.words xs w.0.0 w.0.1 (ident_declares t.name w.0.0 w.0.2 w.0.3)
+member_other (suc n) s kinds.Empty xs rest w other = rw w.0.1 other

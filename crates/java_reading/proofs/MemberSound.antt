@@ -12,24 +12,25 @@ use Rattle.java_syntax.specs.declared.class.Member.TheVariants as kinds
 use Rattle.java_syntax.specs.declared.class.Modifier.{Modifier}
 use Rattle.java_syntax.specs.declared.class.Modifier.TheVariants as modifier
 use Rattle.java_syntax.specs.declared.class.Mods.{Mods}
-use Rattle.java_syntax.specs.declared.class.ParamTree.{ParamTree}
-use Rattle.java_syntax.specs.declared.name.Ident.{Ident}
-use Rattle.java_syntax.specs.declared.name.TypeTree.{TypeTree}
-use Rattle.java_syntax.specs.Lexeme.{Lexeme, lexeme, Then, sees, sees_word}
-use Rattle.java_syntax.specs.Types.{IsIdent, IsType}
+use Rattle.token_reading.specs.declared.name.Ident.{Ident}
+use Rattle.token_reading.specs.declared.name.TypeTree.{TypeTree}
+use Rattle.token_reading.specs.Lexeme.{Lexeme, lexeme, Then, sees, sees_word}
+use Rattle.token_reading.specs.Types.{IsIdent, IsType}
+use Rattle.token_reading.specs.Height.{type_height, params_height}
 use Rattle.java_syntax.specs.Exprs.{Within}
 use Rattle.java_syntax.specs.Stmts.{UnendedWithin, Stmts, StmtWithin}
-use Rattle.java_syntax.specs.Classes.{modifier_word, Modifiers, Param, MoreParams, Params, MoreNames, Throws, Answer, Invocable, MemberNode, MemberWithin}
-use Rattle.java_reading.specs.Outcome.{Outcome}
-use Rattle.java_reading.specs.ReadType.{next}
+use Rattle.java_syntax.specs.Classes.{modifier_word, Modifiers, MoreNames, Throws, Answer, Invocable, MemberNode, answer_height, member_type_height, MemberWithin}
+use Rattle.token_reading.specs.Outcome.{Outcome}
+use Rattle.token_reading.specs.ReadType.{next}
 use Rattle.java_reading.specs.ReadStmt.{value, body}
-use Rattle.java_reading.specs.ReadClass.{modifier_keyword, modifier_by, modifier_at, on, modifiers, param_of, param, more_params, params, names, throws, mods_of, maker_of, method_of, is_maker, maker, method, field, void_method, constructor, typed, declared, member_node, member}
+use Rattle.java_reading.specs.ReadClass.{modifier_keyword, modifier_by, modifier_at, on, modifiers, names, throws, mods_of, maker_of, method_of, is_maker, maker, method, field, void_method, constructor, typed, declared, member_node, member}
 use Rattle.java_reading.proofs.ArgsFacts.{ArgsFacts}
 use Rattle.java_reading.proofs.ExprFacts.{ExprFacts}
-use Rattle.java_reading.proofs.SimpleSound.{Takes, MayTake, op_gives, ident_gives, type_gives, initial_gives, none_gives}
-use Rattle.java_reading.proofs.Steps.{Gives, gives, gives_none, gives_then, gives_map, gives_if}
+use Rattle.java_reading.proofs.SimpleSound.{initial_gives}
+use Rattle.token_reading.proofs.Steps.{Gives, gives, gives_none, gives_then, gives_map, gives_if}
 use Rattle.java_reading.proofs.StmtSound.{body_gives, stmt_sound}
-use Rattle.java_reading.proofs.Tokens.{then_length, from_sees, from_sees_word}
+use Rattle.token_reading.proofs.Lexemes.{then_length, from_sees, from_sees_word}
+use Rattle.token_reading.proofs.Given.{Takes, MayTake, op_gives, ident_gives, type_gives, none_gives, params_gives}
 
 -- ---- modifiers
 
@@ -73,43 +74,7 @@ modifiers_gives : (xs : List Lexeme) → MayTake Modifiers xs ⊥ (modifiers (le
 modifiers_gives xs =
     gives_map (λ all us v. (subst (λ (l : List Modifier). Modifiers l xs us) (sym v.0.1) v.0.2, v.1)) (λ h. h) (modifiers_from (length xs) [] xs)
 
--- ---- parameters and exceptions
-
-param_gives : (xs : List Lexeme) → Takes Param xs ⊥ (param xs)
-unfolding param
-param_gives xs =
-    gives_then (type_gives xs) (λ h. h) (λ t ys w. gives_then (ident_gives ys) (λ h. h)
-    (λ x zs v. gives (param_of t x) zs ((ys, w.0, v.0), omega (arith, w.1, v.1))))
-
-more_params_gives : (fuel : ℕ) (done : List ParamTree) (xs : List Lexeme)
-    → Takes (λ all xs rest. (t : ParamTree) × (more : List ParamTree) × (all ≡ done ++ t ∷ more) × (ys : List Lexeme) × Param t xs ys
-    × MoreParams more ys rest) xs ⊥
-    (more_params fuel done xs)
-unfolding more_params
-more_params_gives zero done xs = gives_none
-more_params_gives (suc fuel) done xs =
-    gives_then (param_gives xs) (λ h. h) (λ t ys w. gives_if (sees o.Comma ys)
-    (λ h. let u = from_sees o.Comma ys h in
-    gives_map (λ all us v. (
-      (t, v.0.0 ∷ v.0.1, v.0.2 ∙ append_assoc done (t ∷ []) (v.0.0 ∷ v.0.1), ys, w.0, (next ys, u, v.0.3, v.0.4, v.0.5)),
-      omega (arith, w.1, v.1, then_length _ ys (next ys) u),
-    ))
-    (λ h. h) (more_params_gives fuel (done ++ t ∷ []) (next ys)))
-    (λ h. gives_then (op_gives o.RightParen ys) (λ h. h) (λ _ zs u. gives (done ++ t ∷ []) zs (
-      (t, [], refl, ys, w.0, u.0),
-      omega (arith, w.1, u.1),
-    ))))
-
-params_gives : (xs : List Lexeme) → Takes (λ all xs rest. (ys : List Lexeme) × Then (k.Op o.LeftParen) xs ys × Params all ys rest) xs ⊥ (params xs)
-unfolding params
-params_gives xs =
-    gives_then (op_gives o.LeftParen xs) (λ h. h) (λ _ ys t. gives_if (sees o.RightParen ys)
-    (λ h. let u = from_sees o.RightParen ys h in gives [] (next ys) ((ys, t.0, u), omega (arith, t.1, then_length _ ys (next ys) u)))
-    (λ h. gives_map (λ all us v. (
-      (ys, t.0, subst (λ (l : List ParamTree). Params l ys us) (sym v.0.2) (v.0.3, v.0.4, v.0.5)),
-      omega (arith, t.1, v.1),
-    ))
-    (λ h. h) (more_params_gives (length ys) [] ys)))
+-- ---- exceptions
 
 names_gives : (fuel : ℕ) (done : List Ident) (xs : List Lexeme)
     → Takes (λ all xs rest. (x : Ident) × (more : List Ident) × (all ≡ done ++ x ∷ more) × (ys : List Lexeme) × IsIdent x xs ys
@@ -145,90 +110,101 @@ module _ (facts : ExprFacts) (args_facts : ArgsFacts) (n : ℕ) where
   unfolding body
   body_written xs = body_gives facts args_facts n (stmt_sound facts args_facts n) xs
 
-  -- what a constructor has behind its name
+  -- what a constructor has after its name
   abbrev Behind : MakerTree → List Lexeme → List Lexeme → Type 0
   Behind t xs rest = Invocable (Within n) (Stmts (Within n) (UnendedWithin n) (StmtWithin n)) t.params t.throws t.body xs rest
 
   maker_gives : (mods : Mods) (name : Ident) (xs : List Lexeme)
-      → Takes (λ t xs rest. (t.mods ≡ mods) × (t.name ≡ name) × Behind t xs rest) xs (n ≤ length xs) (maker (value n) (body n) mods name xs)
+      → Takes (λ t xs rest. (t.mods ≡ mods) × (t.name ≡ name) × Behind t xs rest × (params_height t.params ≤ n)) xs (n ≤ length xs)
+      (maker n (value n) (body n) mods name xs)
   unfolding maker
   maker_gives mods name xs =
-      gives_then (params_gives xs) (λ h. absurd h) (λ ps ys w. gives_then (throws_gives ys) (λ h. absurd h) (λ ts zs v.
+      gives_then (params_gives n xs) (λ h. omega arith) (λ ps ys w. gives_then (throws_gives ys) (λ h. absurd h) (λ ts zs v.
       gives_then (op_gives o.LeftBrace zs) (λ h. absurd h) (λ _ us u. gives_then (body_written us) (λ h. omega (arith, w.1, v.1, u.1)) (λ all vs x.
       gives (maker_of mods name ps ts all) vs
-      ((refl, refl, (w.0.0, w.0.1, ys, w.0.2, zs, v.0, us, u.0, x.0)), omega (arith, w.1, v.1, u.1, x.1))))))
+      ((refl, refl, (w.0.0, w.0.1, ys, w.0.2, zs, v.0, us, u.0, x.0), w.0.3), omega (arith, w.1, v.1, u.1, x.1))))))
 
-  -- a member of these modifiers behind them
+  -- one level more
+  abbrev Whole : Member → List Lexeme → List Lexeme → Type 0
+  Whole t xs rest = MemberNode (Within n) (Stmts (Within n) (UnendedWithin n) (StmtWithin n)) t xs rest × (member_type_height t ≤ n)
+
+  -- a member of these modifiers after them
   abbrev Declared : Mods → Member → List Lexeme → List Lexeme → Type 0
-  Declared mods t ys rest = (xs : List Lexeme) → Modifiers mods.words xs ys
-      → MemberNode (Within n) (Stmts (Within n) (UnendedWithin n) (StmtWithin n)) t xs rest
+  Declared mods t ys rest = (xs : List Lexeme) → Modifiers mods.words xs ys → Whole t xs rest
 
-  method_gives : (mods : Mods) (answer : Option TypeTree) (name : Ident) (ys zs us : List Lexeme) → Answer answer ys zs → IsIdent name zs us
-      → length us < length ys
-      → Takes (Declared mods) ys (suc n ≤ length ys) (method (value n) (body n) mods answer name us)
+  method_gives : (mods : Mods) (answer : Option TypeTree) (name : Ident) (ys zs us : List Lexeme) → Answer answer ys zs → answer_height answer ≤ n
+      → IsIdent name zs us → length us < length ys
+      → Takes (Declared mods) ys (suc n ≤ length ys) (method n (value n) (body n) mods answer name us)
   unfolding method
-  method_gives mods answer name ys zs us w named less =
+  method_gives mods answer name ys zs us w low named less =
       gives_then (maker_gives mods name us) (λ h. omega (arith, less)) (λ t vs v.
       gives (kinds.Method (method_of answer t)) vs (
         λ xs ms. (
-          ys,
-          subst (λ (m : Mods). Modifiers m.words xs ys) (sym v.0.0) ms,
-          zs,
-          w,
-          us,
-          subst (λ (x : Ident). IsIdent x zs us) (sym v.0.1) named,
-          v.0.2,
+          (
+            ys,
+            subst (λ (m : Mods). Modifiers m.words xs ys) (sym v.0.0) ms,
+            zs,
+            w,
+            us,
+            subst (λ (x : Ident). IsIdent x zs us) (sym v.0.1) named,
+            v.0.2,
+          ),
+          omega (arith, low, v.0.3),
         ),
         omega (arith, less, v.1),
       ))
 
-  field_gives : (mods : Mods) (t : TypeTree) (name : Ident) (ys zs us : List Lexeme) → IsType t ys zs → IsIdent name zs us → length us < length ys
-      → Takes (Declared mods) ys (suc n ≤ length ys) (field (value n) (body n) mods t name us)
+  field_gives : (mods : Mods) (t : TypeTree) (name : Ident) (ys zs us : List Lexeme) → IsType t ys zs → type_height t ≤ n → IsIdent name zs us
+      → length us < length ys
+      → Takes (Declared mods) ys (suc n ≤ length ys) (field n (value n) (body n) mods t name us)
   unfolding field
-  field_gives mods t name ys zs us w named less =
+  field_gives mods t name ys zs us w low named less =
       gives_then (initial_gives facts n us) (λ h. omega (arith, less)) (λ e vs v. gives_then (op_gives o.Semicolon vs) (λ h. absurd h) (λ _ ws u.
-      gives _ ws ((λ xs ms. (ys, ms, zs, w, us, named, vs, v.0, u.0)), omega (arith, less, v.1, u.1))))
+      gives _ ws ((λ xs ms. ((ys, ms, zs, w, us, named, vs, v.0, u.0), low)), omega (arith, less, v.1, u.1))))
 
-  typed_gives : (mods : Mods) (ys : List Lexeme) → Takes (Declared mods) ys (suc n ≤ length ys) (typed (value n) (body n) mods ys)
+  typed_gives : (mods : Mods) (ys : List Lexeme) → Takes (Declared mods) ys (suc n ≤ length ys) (typed n (value n) (body n) mods ys)
   unfolding typed
   typed_gives mods ys =
-      gives_then (type_gives ys) (λ h. absurd h) (λ t zs w. gives_then (ident_gives zs) (λ h. absurd h) (λ x us v. gives_if (sees o.LeftParen us)
-      (λ h. method_gives mods (Some t) x ys zs us w.0 v.0 (omega (arith, w.1, v.1)))
-      (λ h. field_gives mods t x ys zs us w.0 v.0 (omega (arith, w.1, v.1)))))
+      gives_then (type_gives n ys) (λ h. omega arith) (λ t zs w. gives_then (ident_gives zs) (λ h. absurd h) (λ x us v. gives_if (sees o.LeftParen us)
+      (λ h. method_gives mods (Some t) x ys zs us w.0.0 w.0.1 v.0 (omega (arith, w.1, v.1)))
+      (λ h. field_gives mods t x ys zs us w.0.0 w.0.1 v.0 (omega (arith, w.1, v.1)))))
 
   void_gives : (mods : Mods) (ys zs : List Lexeme) → Then (k.Word word.Void) ys zs
-      → Takes (Declared mods) ys (suc n ≤ length ys) (void_method (value n) (body n) mods zs)
+      → Takes (Declared mods) ys (suc n ≤ length ys) (void_method n (value n) (body n) mods zs)
   unfolding void_method
   void_gives mods ys zs t =
-      gives_then (ident_gives zs) (λ h. absurd h) (λ x us v. method_gives mods None x ys zs us t v.0 (omega (arith, v.1, then_length _ ys zs t)))
+      gives_then (ident_gives zs) (λ h. absurd h) (λ x us v. method_gives mods None x ys zs us t (omega arith) v.0 (omega (arith, v.1, then_length _ ys zs t)))
 
-  constructor_gives : (mods : Mods) (ys : List Lexeme) → Takes (Declared mods) ys (suc n ≤ length ys) (constructor (value n) (body n) mods ys)
+  constructor_gives : (mods : Mods) (ys : List Lexeme) → Takes (Declared mods) ys (suc n ≤ length ys) (constructor n (value n) (body n) mods ys)
   unfolding constructor
   constructor_gives mods ys =
       gives_then (ident_gives ys) (λ h. absurd h) (λ x zs w. gives_then (maker_gives mods x zs) (λ h. omega (arith, w.1)) (λ t us v.
       gives (kinds.Maker t) us (
         λ xs ms. (
-          ys,
-          subst (λ (m : Mods). Modifiers m.words xs ys) (sym v.0.0) ms,
-          zs,
-          subst (λ (y : Ident). IsIdent y ys zs) (sym v.0.1) w.0,
-          v.0.2,
+          (
+            ys,
+            subst (λ (m : Mods). Modifiers m.words xs ys) (sym v.0.0) ms,
+            zs,
+            subst (λ (y : Ident). IsIdent y ys zs) (sym v.0.1) w.0,
+            v.0.2,
+          ),
+          v.0.3,
         ),
         omega (arith, w.1, v.1),
       )))
 
-  declared_gives : (mods : Mods) (ys : List Lexeme) → Takes (Declared mods) ys (suc n ≤ length ys) (declared (value n) (body n) mods ys)
+  declared_gives : (mods : Mods) (ys : List Lexeme) → Takes (Declared mods) ys (suc n ≤ length ys) (declared n (value n) (body n) mods ys)
   unfolding declared
   declared_gives mods ys =
       gives_if (sees_word word.Void ys) (λ h. void_gives mods ys (next ys) (from_sees_word word.Void ys h))
       (λ h. gives_if (is_maker ys) (λ h. constructor_gives mods ys) (λ h. typed_gives mods ys))
 
-  node_gives : (xs : List Lexeme) → Takes (MemberNode (Within n) (Stmts (Within n) (UnendedWithin n) (StmtWithin n))) xs (suc n ≤ length xs)
-      (member_node (value n) (body n) xs)
+  node_gives : (xs : List Lexeme) → Takes Whole xs (suc n ≤ length xs)
+      (member_node n (value n) (body n) xs)
   unfolding member_node
   node_gives xs =
       gives_if (sees o.Semicolon xs)
-      (λ h. let t = from_sees o.Semicolon xs h in gives kinds.Empty (next xs) (t, omega (arith, then_length _ xs (next xs) t)))
+      (λ h. let t = from_sees o.Semicolon xs h in gives kinds.Empty (next xs) ((t, omega arith), omega (arith, then_length _ xs (next xs) t)))
       (λ h. gives_then (modifiers_gives xs) (λ h. absurd h) (λ words ys w.
       gives_map (λ t zs v. (v.0 xs w.0, omega (arith, w.1, v.1))) (λ h. omega (arith, w.1)) (declared_gives (mods_of words) ys)))
 

@@ -1,22 +1,26 @@
 -- Trees that begin with a token of their own are read.
-use Rattle.std.proofs.Common.{◌≡◌, ℕ, suc, ◌+◌, ◌≤◌, List, ◌∷◌, length, Bool, true, false, refl, arith}
+use Rattle.std.proofs.Common.{◌≡◌, ℕ, suc, ◌+◌, ◌≤◌, max, List, ◌∷◌, Bool, true, false, Ok, refl, arith}
 use Rattle.java_tokens.specs.declared.token.Keyword.TheVariants as w
 use Rattle.java_tokens.specs.declared.token.Operator.TheVariants as o
 use Rattle.java_tokens.specs.declared.token.TokenKind.TheVariants as k
-use Rattle.java_syntax.specs.declared.name.BaseType.{BaseType}
-use Rattle.java_syntax.specs.declared.name.BaseType.TheVariants as base
-use Rattle.java_syntax.specs.declared.name.Ident.{Ident}
-use Rattle.java_syntax.specs.declared.name.TypeTree.{TypeTree}
+use Rattle.token_reading.specs.declared.name.BaseType.{BaseType}
+use Rattle.token_reading.specs.declared.name.BaseType.TheVariants as base
+use Rattle.token_reading.specs.declared.name.Ident.{Ident}
+use Rattle.token_reading.specs.declared.name.TypeTree.{TypeTree}
 use Rattle.java_syntax.specs.declared.operator.UnaryOp.{UnaryOp}
 use Rattle.java_syntax.specs.declared.operator.UnaryOp.TheVariants as unary
 use Rattle.java_syntax.specs.declared.expression.Expr.{Expr}
 use Rattle.java_syntax.specs.declared.expression.Expr.TheVariants as e
-use Rattle.java_syntax.specs.Lexeme.{Lexeme, lexeme, Then, same_operator, sees}
-use Rattle.java_syntax.specs.Types.{IsIdent, IsBase, IsType, Brackets, castable}
+use Rattle.token_reading.specs.Lexeme.{Lexeme, lexeme, Then, same_operator, sees}
+use Rattle.token_reading.specs.Types.{IsIdent, IsBase, IsType, Brackets, castable}
+use Rattle.token_reading.specs.Height.{type_height}
+use Rattle.token_reading.specs.ReadType.{pairs, type_tree}
 use Rattle.java_syntax.specs.Exprs.{unary_sign, unary_level, truth, casts}
 use Rattle.java_reading.specs.ReadExpr.{named, cast, parens, operand, super_call, instance, array, creation, prefix_operator, prefix, precedence, reading}
-use Rattle.java_reading.proofs.Tests.{not_below}
-use Rattle.java_reading.proofs.Tokens.{sees_it, expect_it, ident_read, base_read, brackets_read, brackets_length, type_read}
+use Rattle.token_reading.proofs.Tests.{not_below}
+use Rattle.token_reading.proofs.Lexemes.{sees_it, expect_it, ident_read, base_read, pairs_low, type_low}
+use Rattle.token_reading.proofs.Found.{pairs_or, type_or}
+use Rattle.token_reading.proofs.Steps.{Or, found, higher as over_limit}
 use Rattle.java_reading.proofs.Casts.{close_no_bracket}
 use Rattle.java_reading.proofs.Claims.{Done, done, over, Goes, goes, higher, ArgsDone, args_done, args_over}
 
@@ -83,35 +87,35 @@ bracket_no_paren at xs = refl
 
 -- the base of an array's type, as `new` reads it
 array_base : (n at : ℕ) (b : BaseType) (ys zs us : List Lexeme) → IsBase b ys zs → Then (k.Op o.LeftBracket) zs us
-    → creation (reading n) at ys ≡ array (reading n) at b zs
+    → creation n (reading n) at ys ≡ array n (reading n) at b zs
 unfolding creation
 array_base n at base.Int ys zs us w t = rw (base_read base.Int ys zs w) refl
 array_base n at base.Boolean ys zs us w t = rw (base_read base.Boolean ys zs w) refl
 array_base n at (base.Class x) ys zs us w t = rw (base_read (base.Class x) ys zs w, t.1, bracket_no_paren t.0 us) refl
 
+array_by : (n b l at : ℕ) (c : BaseType) (size : Expr) (d : ℕ) (xs ys zs us vs ws rest : List Lexeme) → xs ≡ lexeme at (k.Word w.New) ∷ ys
+    → IsBase c ys zs → Then (k.Op o.LeftBracket) zs us → Done n b 1 size us vs → Then (k.Op o.RightBracket) vs ws → d ≤ n
+    → Or n b (pairs b ws) (Ok (d, rest)) → Goes (suc n) b l (e.NewArray at c size d) xs rest
+unfolding reading precedence prefix array
+array_by n b l at c size d xs ys zs us vs ws rest is w t (done h hn hb r) u fit (found v) =
+    goes (max d h + 1) (suc b) (omega arith) (omega (arith, pairs_low b d ws rest v)) (omega arith)
+    (rw (is, array_base b at c ys zs us w t, t.1, expect_it o.LeftBracket t.0 us, r, u.1, expect_it o.RightBracket u.0 ws, v) refl)
+array_by n b l at c size d xs ys zs us vs ws rest is w t (done h hn hb r) u fit (over_limit up v) =
+    higher (omega arith)
+    (rw (is, array_base b at c ys zs us w t, t.1, expect_it o.LeftBracket t.0 us, r, u.1, expect_it o.RightBracket u.0 ws, v) refl)
+array_by n b l at c size d xs ys zs us vs ws rest is w t (over hn r) u fit v =
+    higher (omega arith) (rw (is, array_base b at c ys zs us w t, t.1, expect_it o.LeftBracket t.0 us, r) refl)
+
 pub array_goes : (n b l at : ℕ) (c : BaseType) (size : Expr) (d : ℕ) (xs ys zs us vs ws rest : List Lexeme) → xs ≡ lexeme at (k.Word w.New) ∷ ys
     → IsBase c ys zs → Then (k.Op o.LeftBracket) zs us → Done n b 1 size us vs → Then (k.Op o.RightBracket) vs ws → Brackets d ws rest
-    → sees o.LeftBracket rest ≡ false → Goes (suc n) b l (e.NewArray at c size d) xs rest
-unfolding reading precedence prefix array
-array_goes n b l at c size d xs ys zs us vs ws rest is w t (done h hn hb r) u v shut =
-    goes (h + 1) (suc b) (omega arith) (omega arith) (omega arith)
-    (rw (
-      is,
-      array_base b at c ys zs us w t,
-      t.1,
-      expect_it o.LeftBracket t.0 us,
-      r,
-      u.1,
-      expect_it o.RightBracket u.0 ws,
-      brackets_read d (length ws) 0 d ws rest (omega arith) (omega (arith, brackets_length d ws rest v)) v shut,
-    ) refl)
-array_goes n b l at c size d xs ys zs us vs ws rest is w t (over hn r) u v shut =
-    higher (omega arith) (rw (is, array_base b at c ys zs us w t, t.1, expect_it o.LeftBracket t.0 us, r) refl)
+    → sees o.LeftBracket rest ≡ false → d ≤ n → Goes (suc n) b l (e.NewArray at c size d) xs rest
+array_goes n b l at c size d xs ys zs us vs ws rest is w t s u v shut fit =
+    array_by n b l at c size d xs ys zs us vs ws rest is w t s u fit (pairs_or n b d ws rest v shut fit)
 
 -- ---- operators before an operand
 
 -- an operator's sign is read as that operator
-sign_read : (n l at : ℕ) (op : UnaryOp) (ys : List Lexeme) → prefix_operator (reading n) l at (unary_sign op) ys ≡ operand (reading n) l at op ys
+sign_read : (n l at : ℕ) (op : UnaryOp) (ys : List Lexeme) → prefix_operator n (reading n) l at (unary_sign op) ys ≡ operand (reading n) l at op ys
 sign_read n l at unary.Plus ys = refl
 sign_read n l at unary.Minus ys = refl
 sign_read n l at unary.Not ys = refl
@@ -134,11 +138,19 @@ paren_goes n b l at a xs ys zs rest is none (done h hn hb r) t =
     goes (h + 1) (suc b) (omega arith) (omega arith) (omega arith) (rw (is, none, r, t.1, expect_it o.RightParen t.0 rest) refl)
 paren_goes n b l at a xs ys zs rest is none (over hn r) t = higher (omega arith) (rw (is, none, r) refl)
 
-pub cast_goes : (n b l at : ℕ) (t : TypeTree) (a : Expr) (xs ys zs us rest : List Lexeme) → xs ≡ lexeme at (k.Op o.LeftParen) ∷ ys → casts ys ≡ true
-    → IsType t ys zs → castable t ≡ true → Then (k.Op o.RightParen) zs us → Done n b 13 a us rest → Goes (suc n) b l (e.Cast at t a) xs rest
+cast_by : (n b l at : ℕ) (t : TypeTree) (a : Expr) (xs ys zs us rest : List Lexeme) → xs ≡ lexeme at (k.Op o.LeftParen) ∷ ys → casts ys ≡ true
+    → castable t ≡ true → Then (k.Op o.RightParen) zs us → Done n b 13 a us rest → type_height t ≤ n → Or n b (type_tree b ys) (Ok (t, zs))
+    → Goes (suc n) b l (e.Cast at t a) xs rest
 unfolding reading precedence prefix parens cast
-cast_goes n b l at t a xs ys zs us rest is some w may u (done h hn hb r) =
-    goes (h + 1) (suc b) (omega arith) (omega arith) (omega arith)
-    (rw (is, some, type_read t ys zs w (close_no_bracket zs us u), may, u.1, expect_it o.RightParen u.0 us, r) refl)
-cast_goes n b l at t a xs ys zs us rest is some w may u (over hn r) =
-    higher (omega arith) (rw (is, some, type_read t ys zs w (close_no_bracket zs us u), may, u.1, expect_it o.RightParen u.0 us, r) refl)
+cast_by n b l at t a xs ys zs us rest is some may u (done h hn hb r) fit (found v) =
+    goes (max (type_height t) h + 1) (suc b) (omega arith) (omega (arith, type_low b t ys zs v)) (omega arith)
+    (rw (is, some, v, may, u.1, expect_it o.RightParen u.0 us, r) refl)
+cast_by n b l at t a xs ys zs us rest is some may u (over hn r) fit (found v) =
+    higher (omega arith) (rw (is, some, v, may, u.1, expect_it o.RightParen u.0 us, r) refl)
+cast_by n b l at t a xs ys zs us rest is some may u s fit (over_limit up v) = higher (omega arith) (rw (is, some, v) refl)
+
+pub cast_goes : (n b l at : ℕ) (t : TypeTree) (a : Expr) (xs ys zs us rest : List Lexeme) → xs ≡ lexeme at (k.Op o.LeftParen) ∷ ys → casts ys ≡ true
+    → IsType t ys zs → castable t ≡ true → Then (k.Op o.RightParen) zs us → Done n b 13 a us rest → type_height t ≤ n
+    → Goes (suc n) b l (e.Cast at t a) xs rest
+cast_goes n b l at t a xs ys zs us rest is some w may u s fit =
+    cast_by n b l at t a xs ys zs us rest is some may u s fit (type_or n b t ys zs w (close_no_bracket zs us u) fit)

@@ -4,14 +4,14 @@ use Rattle.java_tokens.specs.declared.token.Keyword.TheVariants as w
 use Rattle.java_tokens.specs.declared.token.Operator.TheVariants as o
 use Rattle.java_tokens.specs.declared.token.TokenKind.{TokenKind}
 use Rattle.java_tokens.specs.declared.token.TokenKind.TheVariants as k
-use Rattle.java_syntax.specs.declared.name.BaseType.TheVariants as base
-use Rattle.java_syntax.specs.declared.name.Ident.{Ident}
+use Rattle.token_reading.specs.declared.name.BaseType.TheVariants as base
+use Rattle.token_reading.specs.declared.name.Ident.{Ident}
 use Rattle.java_syntax.specs.declared.operator.BinaryOp.TheVariants as binary
 use Rattle.java_syntax.specs.declared.operator.UnaryOp.TheVariants as unary
 use Rattle.java_syntax.specs.declared.expression.Expr.TheVariants as e
-use Rattle.java_syntax.specs.Lexeme.{Lexeme, lexeme, same_operator}
-use Rattle.java_reading.specs.Outcome.{no_tree, too_high, Outcome}
-use Rattle.java_reading.specs.ReadType.{expect, ident_at, ident, brackets, base_type, type_of, type_tree}
+use Rattle.token_reading.specs.Lexeme.{Lexeme, lexeme, same_operator}
+use Rattle.token_reading.specs.Outcome.{no_tree, too_high, Outcome}
+use Rattle.token_reading.specs.ReadType.{expect, none_fits, ident_at, ident, brackets, pairs, base_type, type_of, type_tree}
 use Rattle.java_reading.specs.ReadExpr.{Tall, more_args, args, named, cast, parens, operand, super_call, instance, array, creation, prefix, member, element, conditional, instance_of, operated, climb, precedence, reading}
 
 -- these tokens, numbered from the number on
@@ -90,25 +90,25 @@ sign_behind_sign = refl
 -- `x instanceof A == true`
 type_test : read (name 120 ∷ k.Word w.Instanceof ∷ name 65 ∷ k.Op o.Equal ∷ k.Word w.True ∷ []) ≡
     Ok ((e.Binary binary.Equal (e.InstanceOf (e.Name (at 0 120)) (type_of (base.Class (at 2 65)) 0)) (e.Bool 4 true), 3), [])
-unfolding reading precedence prefix climb named instance_of operated base_type type_tree brackets same_operator
+unfolding reading precedence prefix climb named instance_of operated base_type type_tree pairs brackets same_operator
 type_test = refl
 
 -- `x instanceof int[]`
 test_of_array : read (name 120 ∷ k.Word w.Instanceof ∷ k.Word w.Int ∷ k.Op o.LeftBracket ∷ k.Op o.RightBracket ∷ []) ≡
     Ok ((e.InstanceOf (e.Name (at 0 120)) (type_of base.Int 1), 2), [])
-unfolding reading precedence prefix climb named instance_of expect base_type type_tree brackets same_operator
+unfolding reading precedence prefix climb named instance_of expect base_type type_tree pairs brackets same_operator
 test_of_array = refl
 
 -- `x instanceof A.b`
 no_member_of_test : read (name 120 ∷ k.Word w.Instanceof ∷ name 65 ∷ k.Op o.Dot ∷ name 98 ∷ []) ≡
     Err no_tree
-unfolding reading precedence prefix climb named instance_of base_type type_tree brackets same_operator
+unfolding reading precedence prefix climb named instance_of base_type type_tree pairs brackets same_operator
 no_member_of_test = refl
 
 -- `x instanceof A + 1`
 no_sum_of_test : read (name 120 ∷ k.Word w.Instanceof ∷ name 65 ∷ k.Op o.Plus ∷ k.Number 1 ∷ []) ≡
     Err no_tree
-unfolding reading precedence prefix climb named instance_of base_type type_tree brackets same_operator
+unfolding reading precedence prefix climb named instance_of base_type type_tree pairs brackets same_operator
 no_sum_of_test = refl
 
 -- ---- casts and parentheses
@@ -122,37 +122,37 @@ no_cast = refl
 -- `(A) b`
 class_cast : read (k.Op o.LeftParen ∷ name 65 ∷ k.Op o.RightParen ∷ name 98 ∷ []) ≡
     Ok ((e.Cast 0 (type_of (base.Class (at 1 65)) 0) (e.Name (at 3 98)), 2), [])
-unfolding reading precedence prefix climb parens cast named expect base_type type_tree brackets same_operator
+unfolding reading precedence prefix climb parens cast named expect base_type type_tree pairs brackets same_operator
 class_cast = refl
 
 -- `(a) (b)`
 cast_of_parentheses : read (k.Op o.LeftParen ∷ name 97 ∷ k.Op o.RightParen ∷ k.Op o.LeftParen ∷ name 98 ∷ k.Op o.RightParen ∷ []) ≡
     Ok ((e.Cast 0 (type_of (base.Class (at 1 97)) 0) (e.Paren 3 (e.Name (at 4 98))), 3), [])
-unfolding reading precedence prefix climb parens cast named expect base_type type_tree brackets same_operator
+unfolding reading precedence prefix climb parens cast named expect base_type type_tree pairs brackets same_operator
 cast_of_parentheses = refl
 
 -- `(A) !b`
 cast_of_complement : read (k.Op o.LeftParen ∷ name 65 ∷ k.Op o.RightParen ∷ k.Op o.Not ∷ name 98 ∷ []) ≡
     Ok ((e.Cast 0 (type_of (base.Class (at 1 65)) 0) (e.Unary 3 unary.Not (e.Name (at 4 98))), 3), [])
-unfolding reading precedence prefix climb parens cast named operand expect base_type type_tree brackets same_operator
+unfolding reading precedence prefix climb parens cast named operand expect base_type type_tree pairs brackets same_operator
 cast_of_complement = refl
 
 -- `(A) b.c`
 cast_of_call : read (k.Op o.LeftParen ∷ name 65 ∷ k.Op o.RightParen ∷ name 98 ∷ k.Op o.Dot ∷ name 99 ∷ []) ≡
     Ok ((e.Cast 0 (type_of (base.Class (at 1 65)) 0) (e.Field (e.Name (at 3 98)) (at 5 99)), 3), [])
-unfolding reading precedence prefix climb parens cast named member ident expect base_type type_tree brackets same_operator
+unfolding reading precedence prefix climb parens cast named member ident expect base_type type_tree pairs brackets same_operator
 cast_of_call = refl
 
 -- `(int[]) x`
 array_cast : read (k.Op o.LeftParen ∷ k.Word w.Int ∷ k.Op o.LeftBracket ∷ k.Op o.RightBracket ∷ k.Op o.RightParen ∷ name 120 ∷ []) ≡
     Ok ((e.Cast 0 (type_of base.Int 1) (e.Name (at 5 120)), 2), [])
-unfolding reading precedence prefix climb parens cast named expect base_type type_tree brackets same_operator
+unfolding reading precedence prefix climb parens cast named expect base_type type_tree pairs brackets same_operator
 array_cast = refl
 
 -- `(int) x`
 no_int_cast : read (k.Op o.LeftParen ∷ k.Word w.Int ∷ k.Op o.RightParen ∷ name 120 ∷ []) ≡
     Err no_tree
-unfolding reading precedence prefix climb parens cast base_type type_tree brackets same_operator
+unfolding reading precedence prefix climb parens cast base_type type_tree pairs brackets same_operator
 no_int_cast = refl
 
 -- `(A[]) -b`
@@ -201,20 +201,20 @@ creation_of_instance = refl
 
 -- `new int[3][][]`
 array_of_arrays : read (k.Word w.New ∷ k.Word w.Int ∷ k.Op o.LeftBracket ∷ k.Number 3 ∷ k.Op o.RightBracket ∷ k.Op o.LeftBracket ∷ k.Op o.RightBracket ∷ k.Op o.LeftBracket ∷ k.Op o.RightBracket ∷ []) ≡
-    Ok ((e.NewArray 0 base.Int (e.Number 3 3) 2, 2), [])
-unfolding reading precedence prefix climb creation array base_type brackets expect same_operator
+    Ok ((e.NewArray 0 base.Int (e.Number 3 3) 2, 3), [])
+unfolding reading precedence prefix climb creation array base_type pairs brackets expect same_operator
 array_of_arrays = refl
 
 -- `new A[3].l`
 length_of_array : read (k.Word w.New ∷ name 65 ∷ k.Op o.LeftBracket ∷ k.Number 3 ∷ k.Op o.RightBracket ∷ k.Op o.Dot ∷ name 108 ∷ []) ≡
     Ok ((e.Field (e.NewArray 0 (base.Class (at 1 65)) (e.Number 3 3) 0) (at 6 108), 3), [])
-unfolding reading precedence prefix climb creation array member ident base_type brackets expect same_operator
+unfolding reading precedence prefix climb creation array member ident base_type pairs brackets expect same_operator
 length_of_array = refl
 
 -- `new int[3][4]`
 one_size : read (k.Word w.New ∷ k.Word w.Int ∷ k.Op o.LeftBracket ∷ k.Number 3 ∷ k.Op o.RightBracket ∷ k.Op o.LeftBracket ∷ k.Number 4 ∷ k.Op o.RightBracket ∷ []) ≡
     Err no_tree
-unfolding reading precedence prefix climb creation array base_type brackets expect same_operator
+unfolding reading precedence prefix climb creation array base_type pairs brackets expect same_operator
 one_size = refl
 
 -- `a = 1`
@@ -233,10 +233,21 @@ as_high = refl
 
 too_high_by_one : reading 2 1 (row 0 (k.Op o.LeftParen ∷ k.Op o.LeftParen ∷ k.Number 1 ∷ k.Op o.RightParen ∷ k.Op o.RightParen ∷ [])) ≡
     Err too_high
-unfolding reading precedence prefix climb parens
+unfolding reading precedence prefix climb parens none_fits
 too_high_by_one = refl
 
 -- `1 + 2 + 3` has height 3
 chain_too_high : reading 2 1 (row 0 (k.Number 1 ∷ k.Op o.Plus ∷ k.Number 2 ∷ k.Op o.Plus ∷ k.Number 3 ∷ [])) ≡ Err too_high
 unfolding reading precedence prefix climb operated
 chain_too_high = refl
+
+-- `(A[][]) b` has height 3
+type_as_high : reading 3 1 (row 0 (k.Op o.LeftParen ∷ name 65 ∷ k.Op o.LeftBracket ∷ k.Op o.RightBracket ∷ k.Op o.LeftBracket ∷ k.Op o.RightBracket ∷ k.Op o.RightParen ∷ name 98 ∷ [])) ≡
+    Ok ((e.Cast 0 (type_of (base.Class (at 1 65)) 2) (e.Name (at 7 98)), 3), [])
+unfolding reading precedence prefix climb parens cast named expect base_type type_tree pairs brackets same_operator
+type_as_high = refl
+
+type_too_high : reading 2 1 (row 0 (k.Op o.LeftParen ∷ name 65 ∷ k.Op o.LeftBracket ∷ k.Op o.RightBracket ∷ k.Op o.LeftBracket ∷ k.Op o.RightBracket ∷ k.Op o.RightParen ∷ name 98 ∷ [])) ≡
+    Err too_high
+unfolding reading precedence prefix climb parens cast expect base_type type_tree pairs brackets same_operator
+type_too_high = refl

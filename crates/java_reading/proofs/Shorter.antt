@@ -2,9 +2,9 @@
 use Rattle.std.proofs.Common.{ℕ, zero, suc, ◌+◌, ◌<◌, List, [], ◌∷◌, length, ap, arith}
 use Rattle.java_syntax.specs.declared.expression.Expr.{Expr, out-Expr}
 use Rattle.java_syntax.specs.declared.expression.Expr.TheOpen.{Expr-F}
-use Rattle.java_syntax.specs.Lexeme.{Lexeme}
+use Rattle.token_reading.specs.Lexeme.{Lexeme}
 use Rattle.java_syntax.specs.Exprs.{Layer, Args, MoreArgs, Node, Within}
-use Rattle.java_reading.proofs.Tokens.{then_length, base_length, brackets_length, type_length}
+use Rattle.token_reading.proofs.Lexemes.{then_length, base_length, brackets_length, type_length}
 
 module _ (Part : Expr → ℕ → List Lexeme → List Lexeme → Type 0)
     (shorter : (e : Expr) (l : ℕ) (xs rest : List Lexeme) → Part e l xs rest → length rest < length xs) where

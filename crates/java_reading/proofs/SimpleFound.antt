@@ -1,14 +1,11 @@
 -- Declarations and simple statements that are written are found.
 use Rattle.std.proofs.Common.{◌≡◌, ℕ, ◌≤◌, List, [], ◌∷◌, Bool, true, false, Option, Some, None, Ok, refl, sym, ◌∙◌, ap, arith}
-use Rattle.java_tokens.specs.declared.token.Keyword.{Keyword}
 use Rattle.java_tokens.specs.declared.token.Operator.{Operator}
 use Rattle.java_tokens.specs.declared.token.Operator.TheVariants as o
 use Rattle.java_tokens.specs.declared.token.TokenKind.{TokenKind}
 use Rattle.java_tokens.specs.declared.token.TokenKind.TheVariants as k
 use Rattle.java_syntax.specs.declared.expression.Expr.{Expr, out-Expr}
 use Rattle.java_syntax.specs.declared.expression.Expr.TheOpen.{Expr-F}
-use Rattle.java_syntax.specs.declared.name.Ident.{Ident}
-use Rattle.java_syntax.specs.declared.name.TypeTree.{TypeTree}
 use Rattle.java_syntax.specs.declared.operator.AssignOp.{AssignOp}
 use Rattle.java_syntax.specs.declared.operator.AssignOp.TheVariants as assign
 use Rattle.java_syntax.specs.declared.operator.Fix.{Fix}
@@ -19,35 +16,20 @@ use Rattle.java_syntax.specs.declared.statement.LocalTree.{LocalTree}
 use Rattle.java_syntax.specs.declared.statement.Stmt.{roll-Stmt}
 use Rattle.java_syntax.specs.declared.statement.Stmt.TheOpen.{Stmt-F}
 use Rattle.java_syntax.specs.declared.statement.Stmt.TheVariants.{rolls-Local, rolls-Assign, rolls-Step, rolls-Eval}
-use Rattle.java_syntax.specs.Lexeme.{Lexeme, lexeme, Then, sees, same_operator}
-use Rattle.java_syntax.specs.Types.{IsIdent, IsType}
+use Rattle.token_reading.specs.Lexeme.{Lexeme, lexeme, Then, sees, same_operator}
+use Rattle.token_reading.specs.Height.{type_height}
 use Rattle.java_syntax.specs.Exprs.{Layer, level, Within}
 use Rattle.java_syntax.specs.Stmts.{StmtLayer, assign_sign, step_sign, is_declaration, Initial, IsLocal, Steps, Unended}
-use Rattle.java_reading.specs.ReadType.{expect, expect_word, ident, type_tree, declares}
 use Rattle.java_reading.specs.ReadExpr.{follows}
 use Rattle.java_reading.specs.ReadStmt.{value, is_post, assign_at, step_operator, step_by, step_at, initial, local, declaration, step_before, assignment, step_behind, evaluated, simple}
 use Rattle.java_reading.proofs.Begins.{begins_operator, begins, Begins}
 use Rattle.java_reading.proofs.Claims.{Done, done, over}
 use Rattle.java_reading.proofs.ExprFacts.{ExprFacts}
 use Rattle.java_reading.proofs.Levels.{binary_range, unary_range}
-use Rattle.java_reading.proofs.Steps.{Or, found, higher, or_then}
-use Rattle.java_reading.proofs.Tokens.{sees_it, expect_it, expect_word_it, ident_read, type_read, from_sees}
-
--- ---- single tokens, identifiers and types
-
-pub op_or : (n b : ℕ) (s : Operator) (xs ys : List Lexeme) → Then (k.Op s) xs ys → Or n b (expect s xs) (Ok (tt, ys))
-op_or n b s xs ys t = found (rw t.1 (expect_it s t.0 ys))
-
-pub word_or : (n b : ℕ) (s : Keyword) (xs ys : List Lexeme) → Then (k.Word s) xs ys → Or n b (expect_word s xs) (Ok (tt, ys))
-word_or n b s xs ys t = found (rw t.1 (expect_word_it s t.0 ys))
-
-pub ident_or : (n b : ℕ) (x : Ident) (xs ys : List Lexeme) → IsIdent x xs ys → Or n b (ident xs) (Ok (x, ys))
-ident_or n b x xs ys w = found (ident_read x xs ys w)
-
--- a type before a name
-pub type_or : (n b : ℕ) (t : TypeTree) (x : Ident) (xs ys zs : List Lexeme) → IsType t xs ys → IsIdent x ys zs → Or n b (type_tree xs) (Ok (t, ys))
-unfolding same_operator
-type_or n b t x xs ys zs w named = found (type_read t xs ys w (rw named refl))
+use Rattle.token_reading.proofs.Steps.{Or, found, higher, or_then}
+use Rattle.token_reading.proofs.Lexemes.{sees_it, from_sees}
+use Rattle.token_reading.proofs.Found.{ident_or, named_type_or}
+use Rattle.java_reading.specs.Lookahead.{declares}
 
 -- ---- what an expression doesn't begin with
 
@@ -115,7 +97,7 @@ post_of (Expr-F.InstanceOf a t) h = absurd (omega arith)
 post_of (Expr-F.Conditional c a b) h = absurd (omega arith)
 post_of _ h = refl
 
--- ---- what stands behind a declaration or a simple statement
+-- ---- what stands after a declaration or a simple statement
 
 pub record Closes (rest : List Lexeme) : Type 0 where
   pub loose : follows rest ≡ 0
@@ -157,16 +139,17 @@ module _ (facts : ExprFacts) (n b : ℕ) where
   initial_or (Some e) xs rest w c =
       rw (w.1.1, sees_it o.Assign w.1.0 w.0) (or_then _ (value_or e 1 w.0 rest w.2 c.loose) (found refl))
 
-  pub local_or : (t : LocalTree) (xs rest : List Lexeme) → IsLocal (Within n) t xs rest → Closes rest → Or n b (local (value b) xs) (Ok (t, rest))
+  pub local_or : (t : LocalTree) (xs rest : List Lexeme) → type_height t.ty ≤ n → IsLocal (Within n) t xs rest → Closes rest
+      → Or n b (local b (value b) xs) (Ok (t, rest))
   unfolding local
-  local_or t xs rest w c =
-      or_then _ (type_or n b t.ty t.name xs w.0 w.2 w.1 w.3)
+  local_or t xs rest fit w c =
+      or_then _ (named_type_or n b t.ty t.name xs w.0 w.2 w.1 fit w.3)
       (or_then _ (ident_or n b t.name w.0 w.2 w.3) (or_then _ (initial_or t.value w.2 rest w.4 c) (found refl)))
 
-  pub declaration_or : (t : LocalTree) (xs rest : List Lexeme) → IsLocal (Within n) t xs rest → Closes rest
-      → Or n b (declaration (value b) xs) (Ok (roll-Stmt (Stmt-F.Local t), rest))
+  pub declaration_or : (t : LocalTree) (xs rest : List Lexeme) → type_height t.ty ≤ n → IsLocal (Within n) t xs rest → Closes rest
+      → Or n b (declaration b (value b) xs) (Ok (roll-Stmt (Stmt-F.Local t), rest))
   unfolding declaration
-  declaration_or t xs rest w c = rw (rolls-Local t) (or_then _ (local_or t xs rest w c) (found refl))
+  declaration_or t xs rest fit w c = rw (rolls-Local t) (or_then _ (local_or t xs rest fit w c) (found refl))
 
   steps_or : (op : StepOp) (a : Expr) (side : Fix) (xs rest : List Lexeme) → Steps (Within n) op a side xs rest → Closes rest
       → Or n b (simple (value b) xs) (Ok (roll-Stmt (Stmt-F.Step op side a), rest))

@@ -1,6 +1,5 @@
 -- Declarations and simple statements that are read are written.
 use Rattle.std.proofs.Common.{◌≡◌, ℕ, zero, suc, ◌≤◌, ◌<◌, List, [], ◌∷◌, length, Bool, true, false, Option, Some, None, Ok, Err, refl, ◌∙◌, ap, arith}
-use Rattle.java_tokens.specs.declared.token.Keyword.{Keyword}
 use Rattle.java_tokens.specs.declared.token.Operator.{Operator}
 use Rattle.java_tokens.specs.declared.token.Operator.TheVariants as o
 use Rattle.java_tokens.specs.declared.token.TokenKind.{TokenKind}
@@ -14,44 +13,21 @@ use Rattle.java_syntax.specs.declared.operator.StepOp.{StepOp}
 use Rattle.java_syntax.specs.declared.operator.StepOp.TheVariants as step
 use Rattle.java_syntax.specs.declared.statement.Stmt.{Stmt, out-Stmt}
 use Rattle.java_syntax.specs.declared.statement.Stmt.TheVariants.{outs-Local, outs-Assign, outs-Step, outs-Eval}
-use Rattle.java_syntax.specs.Lexeme.{Lexeme, lexeme, Then, sees}
-use Rattle.java_syntax.specs.Types.{IsIdent, IsType}
+use Rattle.token_reading.specs.Lexeme.{Lexeme, lexeme, Then, sees}
+use Rattle.token_reading.specs.Height.{type_height}
 use Rattle.java_syntax.specs.Exprs.{Layer, level, Within, Args}
-use Rattle.java_syntax.specs.Stmts.{assign_sign, step_sign, is_declaration, Initial, IsLocal, Unended, UnendedWithin}
-use Rattle.java_reading.specs.Outcome.{no_tree, too_high, Outcome}
-use Rattle.java_reading.specs.ReadType.{next, expect, expect_word, ident, type_tree}
+use Rattle.java_syntax.specs.Stmts.{assign_sign, step_sign, is_declaration, Initial, IsLocal, Unended, local_type_height, UnendedWithin}
+use Rattle.token_reading.specs.Outcome.{no_tree, too_high, Outcome}
+use Rattle.token_reading.specs.ReadType.{next}
 use Rattle.java_reading.specs.ReadExpr.{Tall, Talls, args, reading}
-use Rattle.java_reading.specs.ReadStmt.{value, arguments, none_fits, is_post, assign_operator, assign_by, assign_at, step_operator, step_by, step_at, initial, local, declaration, step_before, assignment, step_behind, stepped_by, assigned_by, evaluated, simple_by, simple, unended}
+use Rattle.java_reading.specs.ReadStmt.{value, arguments, is_post, assign_operator, assign_by, assign_at, step_operator, step_by, step_at, initial, local, declaration, step_before, assignment, step_behind, stepped_by, assigned_by, evaluated, simple_by, simple, unended}
 use Rattle.java_reading.proofs.ArgsFacts.{ArgsFacts}
 use Rattle.java_reading.proofs.Claims.{Sound, ArgsSound}
 use Rattle.java_reading.proofs.ExprFacts.{ExprFacts}
 use Rattle.java_reading.proofs.Shorter.{args_length}
-use Rattle.java_reading.proofs.Steps.{Gives, gives, gives_none, gives_high, gives_then, gives_map, gives_if, plainly}
-use Rattle.java_reading.proofs.Tokens.{then_length, type_length, from_sees, expected, expected_word, ident_written, type_written}
-
--- ---- What a reader gives is written by R, and takes a token.
-abbrev pub Takes : {A : Type 0} → (A → List Lexeme → List Lexeme → Type 0) → List Lexeme → Type 0 → Outcome A → Type 0
-Takes R xs H o = Gives (λ a ys. R a xs ys × (length ys < length xs)) H o
-
--- the same, where it may take none
-abbrev pub MayTake : {A : Type 0} → (A → List Lexeme → List Lexeme → Type 0) → List Lexeme → Type 0 → Outcome A → Type 0
-MayTake R xs H o = Gives (λ a ys. R a xs ys × (length ys ≤ length xs)) H o
-
--- ---- single tokens, identifiers and types
-
-pub op_gives : (s : Operator) (xs : List Lexeme) → Takes (λ _ xs ys. Then (k.Op s) xs ys) xs ⊥ (expect s xs)
-op_gives s xs = gives_map (λ a ys t. (t, omega (arith, then_length _ xs ys t)))
-    (λ h. h) (plainly (λ _ ys zs. Then (k.Op s) ys zs) xs (expect s xs) (expected s xs))
-
-pub word_gives : (s : Keyword) (xs : List Lexeme) → Takes (λ _ xs ys. Then (k.Word s) xs ys) xs ⊥ (expect_word s xs)
-word_gives s xs = gives_map (λ a ys t. (t, omega (arith, then_length _ xs ys t)))
-    (λ h. h) (plainly (λ _ ys zs. Then (k.Word s) ys zs) xs (expect_word s xs) (expected_word s xs))
-
-pub ident_gives : (xs : List Lexeme) → Takes IsIdent xs ⊥ (ident xs)
-ident_gives xs = gives_map (λ x ys w. (w, omega (arith, ap length w))) (λ h. h) (plainly IsIdent xs (ident xs) (ident_written xs))
-
-pub type_gives : (xs : List Lexeme) → Takes IsType xs ⊥ (type_tree xs)
-type_gives xs = gives_map (λ t ys w. (w, type_length t xs ys w)) (λ h. h) (plainly IsType xs (type_tree xs) (type_written xs))
+use Rattle.token_reading.proofs.Steps.{gives, gives_none, gives_high, gives_then, gives_map, gives_if}
+use Rattle.token_reading.proofs.Given.{Takes, MayTake, ident_gives, type_gives, none_gives}
+use Rattle.token_reading.proofs.Lexemes.{then_length, from_sees}
 
 -- ---- signs
 
@@ -143,20 +119,21 @@ module _ (facts : ExprFacts) (n : ℕ) where
       (λ e ys w. gives (Some e) ys ((next xs, t, w.0), omega (arith, w.1, then_length _ xs (next xs) t))))
       (λ h. gives None xs (refl, omega arith))
 
-  local_gives : (xs : List Lexeme) → Takes (IsLocal (Within n)) xs (n < length xs) (local (value n) xs)
+  local_gives : (xs : List Lexeme)
+      → Takes (λ t xs ys. IsLocal (Within n) t xs ys × (type_height t.ty ≤ n)) xs (n < length xs) (local n (value n) xs)
   unfolding local
   local_gives xs =
-      gives_then (type_gives xs) (λ h. absurd h) (λ t ys w. gives_then (ident_gives ys) (λ h. absurd h) (λ x zs named.
+      gives_then (type_gives n xs) (λ h. h) (λ t ys w. gives_then (ident_gives ys) (λ h. absurd h) (λ x zs named.
       gives_then (initial_gives zs) (λ h. omega (arith, w.1, named.1))
-      (λ e us v. gives _ us ((ys, w.0, zs, named.0, v.0), omega (arith, w.1, named.1, v.1)))))
+      (λ e us v. gives _ us (((ys, w.0.0, zs, named.0, v.0), w.0.1), omega (arith, w.1, named.1, v.1)))))
 
   -- a declaration or not, as the Bool says
   abbrev pub Short : Bool → Stmt → List Lexeme → List Lexeme → Type 0
-  Short d t xs ys = (is_declaration (out-Stmt t) ≡ d) × Unended (Within n) (out-Stmt t) xs ys
+  Short d t xs ys = (is_declaration (out-Stmt t) ≡ d) × Unended (Within n) (out-Stmt t) xs ys × (local_type_height (out-Stmt t) ≤ n)
 
-  pub declaration_gives : (xs : List Lexeme) → Takes (Short true) xs (n < length xs) (declaration (value n) xs)
+  pub declaration_gives : (xs : List Lexeme) → Takes (Short true) xs (n < length xs) (declaration n (value n) xs)
   unfolding declaration
-  declaration_gives xs = gives_then (local_gives xs) (λ h. h) (λ t ys w. gives _ ys (rw (outs-Local t) (refl, w.0), w.1))
+  declaration_gives xs = gives_then (local_gives xs) (λ h. h) (λ t ys w. gives _ ys (rw (outs-Local t) (refl, w.0.0, w.0.1), w.1))
 
   -- ---- simple statements
 
@@ -165,7 +142,7 @@ module _ (facts : ExprFacts) (n : ℕ) where
   unfolding step_before
   before_gives op xs ys t =
       gives_then (value_gives ys) (λ h. omega (arith, then_length _ xs ys t)) (λ a zs w. gives_if (is_post (out-Expr a))
-      (λ h. gives _ zs (rw (outs-Step op fix.Before a) (refl, (ys, t, post_within a ys zs w.0 h)), omega (arith, w.1, then_length _ xs ys t)))
+      (λ h. gives _ zs (rw (outs-Step op fix.Before a) (refl, (ys, t, post_within a ys zs w.0 h), omega arith), omega (arith, w.1, then_length _ xs ys t)))
       (λ h. gives_none))
 
   assignment_gives : (a : Expr) (op : AssignOp) (xs ys zs : List Lexeme) → Within n a 1 xs ys → length ys < length xs
@@ -176,7 +153,7 @@ module _ (facts : ExprFacts) (n : ℕ) where
       gives_if (is_post (out-Expr a))
       (λ h. gives_then (value_gives zs) (λ h. omega (arith, less, then_length _ ys zs t))
       (λ e us v. gives _ us (
-        rw (outs-Assign a op e) (refl, (ys, post_within a xs ys w h, zs, t, v.0)),
+        rw (outs-Assign a op e) (refl, (ys, post_within a xs ys w h, zs, t, v.0), omega arith),
         omega (arith, less, v.1, then_length _ ys zs t),
       )))
       (λ h. gives_none)
@@ -186,13 +163,13 @@ module _ (facts : ExprFacts) (n : ℕ) where
   unfolding step_behind
   behind_gives a op xs ys zs w less t =
       gives_if (is_post (out-Expr a))
-      (λ h. gives _ zs (rw (outs-Step op fix.Behind a) (refl, (ys, post_within a xs ys w h, t)), omega (arith, less, then_length _ ys zs t)))
+      (λ h. gives _ zs (rw (outs-Step op fix.Behind a) (refl, (ys, post_within a xs ys w h, t), omega arith), omega (arith, less, then_length _ ys zs t)))
       (λ h. gives_none)
 
   stepped_gives : (a : Expr) (xs ys : List Lexeme) → Within n a 1 xs ys → length ys < length xs → (op : Option StepOp) → step_at ys ≡ op
       → Takes (Short false) xs (n < length xs) (stepped_by (value n) a op ys)
   stepped_gives a xs ys w less (Some op) is = behind_gives a op xs ys (next ys) w less (from_step op ys is)
-  stepped_gives a xs ys w less None is = gives _ ys (rw (outs-Eval a) (refl, w), less)
+  stepped_gives a xs ys w less None is = gives _ ys (rw (outs-Eval a) (refl, w, omega arith), less)
 
   assigned_gives : (a : Expr) (xs ys : List Lexeme) → Within n a 1 xs ys → length ys < length xs → (op : Option AssignOp) → assign_at ys ≡ op
       → Takes (Short false) xs (n < length xs) (assigned_by (value n) a op ys)
@@ -209,12 +186,7 @@ module _ (facts : ExprFacts) (n : ℕ) where
   unfolding simple
   simple_gives xs = simple_by_gives xs (step_at xs) refl
 
--- ---- with no budget left
-
-pub none_gives : {A : Type 0} {P : A → List Lexeme → Type 0} (xs : List Lexeme) → Gives P (0 < length xs) (none_fits xs)
-unfolding none_fits
-none_gives [] = gives_none
-none_gives (x ∷ xs) = gives_high (omega arith)
+-- ---- in the header of a `for`
 
 abbrev pub Header : ℕ → Bool → Stmt → List Lexeme → List Lexeme → Type 0
 Header n d t xs ys = (is_declaration (out-Stmt t) ≡ d) × UnendedWithin n t xs ys
@@ -222,5 +194,5 @@ Header n d t xs ys = (is_declaration (out-Stmt t) ≡ d) × UnendedWithin n t xs
 pub unended_gives : ExprFacts → (n : ℕ) (d : Bool) (xs : List Lexeme) → Takes (Header n d) xs (n ≤ length xs) (unended n d xs)
 unfolding unended UnendedWithin
 unended_gives facts zero d xs = gives_map (λ t ys w. w) (λ h. omega arith) (none_gives xs)
-unended_gives facts (suc n) true xs = gives_map (λ t ys w. w) (λ h. omega arith) (declaration_gives facts n xs)
-unended_gives facts (suc n) false xs = gives_map (λ t ys w. w) (λ h. omega arith) (simple_gives facts n xs)
+unended_gives facts (suc n) true xs = gives_map (λ t ys w. ((w.0.0, (w.0.1, w.0.2)), w.1)) (λ h. omega arith) (declaration_gives facts n xs)
+unended_gives facts (suc n) false xs = gives_map (λ t ys w. ((w.0.0, (w.0.1, w.0.2)), w.1)) (λ h. omega arith) (simple_gives facts n xs)

@@ -3,16 +3,16 @@ use Rattle.std.proofs.Common.{◌≡◌, ℕ, zero, suc, ◌+◌, ◌≤◌, ◌
 use Rattle.java_tokens.specs.declared.token.Operator.TheVariants as o
 use Rattle.java_tokens.specs.declared.token.TokenKind.TheVariants as k
 use Rattle.java_syntax.specs.declared.expression.Expr.{Expr}
-use Rattle.java_syntax.specs.Lexeme.{Lexeme, Then, sees}
+use Rattle.token_reading.specs.Lexeme.{Lexeme, Then, sees}
 use Rattle.java_syntax.specs.Exprs.{Args, MoreArgs, Within}
-use Rattle.java_reading.specs.Outcome.{no_tree, too_high, Outcome, Parser, ◌>>=◌}
-use Rattle.java_reading.specs.ReadType.{next, expect}
+use Rattle.token_reading.specs.Outcome.{no_tree, too_high, Outcome, Parser, ◌>>=◌}
+use Rattle.token_reading.specs.ReadType.{next, expect}
 use Rattle.java_reading.specs.ReadExpr.{Tall, Talls, more_args, args}
-use Rattle.java_reading.proofs.Tokens.{then_length, from_sees, Expected, expected}
+use Rattle.token_reading.proofs.Lexemes.{then_length, from_sees, Expected, expected}
 use Rattle.java_reading.proofs.Growing.{grown}
 use Rattle.java_reading.proofs.Claims.{Written, Sound, ArgsSound}
 
--- arguments behind those that were found, of which the highest has the height `high`
+-- arguments after those that were found, of which the highest has the height `high`
 abbrev MoreSound : ℕ → List Expr → ℕ → List Lexeme → Outcome Talls → Type 0
 MoreSound b found high xs (Ok p) =
     (a : Expr) × (more : List Expr) × (p.0.0 ≡ found ++ a ∷ more) × (ys : List Lexeme) × Within p.0.1 a 1 xs ys × MoreArgs (Within p.0.1) more ys p.1

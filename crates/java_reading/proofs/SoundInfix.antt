@@ -1,32 +1,33 @@
 -- What is read of trees that begin with an operand is written.
-use Rattle.std.proofs.Common.{◌≡◌, ℕ, suc, ◌+◌, ◌≤◌, max, nat_lt, if◌then◌else◌, List, length, Bool, true, false, Ok, Err, refl, ap, arith}
+use Rattle.std.proofs.Common.{◌≡◌, ℕ, suc, ◌+◌, ◌≤◌, ◌<◌, max, nat_lt, if◌then◌else◌, List, length, Bool, true, false, Ok, Err, refl, ap, arith}
 use Rattle.java_tokens.specs.declared.token.Keyword.TheVariants as w
 use Rattle.java_tokens.specs.declared.token.Operator.TheVariants as o
 use Rattle.java_tokens.specs.declared.token.TokenKind.TheVariants as k
-use Rattle.java_syntax.specs.declared.name.Ident.{Ident}
-use Rattle.java_syntax.specs.declared.name.TypeTree.{TypeTree}
+use Rattle.token_reading.specs.declared.name.Ident.{Ident}
+use Rattle.token_reading.specs.declared.name.TypeTree.{TypeTree}
 use Rattle.java_syntax.specs.declared.operator.BinaryOp.{BinaryOp}
 use Rattle.java_syntax.specs.declared.expression.Expr.{out-Expr}
 use Rattle.java_syntax.specs.declared.expression.Expr.TheVariants as e
 use Rattle.java_syntax.specs.declared.expression.Expr.TheVariants.{rolls-Binary, rolls-InstanceOf, rolls-Conditional, rolls-Field, rolls-Method, rolls-Element}
 use Rattle.java_syntax.specs.declared.expression.Expr.TheOpen.{Expr-F}
-use Rattle.java_syntax.specs.Lexeme.{Lexeme, Then, sees}
-use Rattle.java_syntax.specs.Types.{IsIdent, IsType}
+use Rattle.token_reading.specs.Lexeme.{Lexeme, Then, sees}
+use Rattle.token_reading.specs.Types.{IsIdent}
+use Rattle.token_reading.specs.Height.{type_height}
 use Rattle.java_syntax.specs.Exprs.{binary_sign, binary_level, level, Within}
 use Rattle.java_reading.specs.declared.infix.Infix.{Infix}
 use Rattle.java_reading.specs.declared.infix.Infix.TheVariants as i
-use Rattle.java_reading.specs.Outcome.{no_tree, too_high, Outcome, Parser, ◌>>=◌}
-use Rattle.java_reading.specs.ReadType.{next, expect, ident, type_tree}
+use Rattle.token_reading.specs.Outcome.{no_tree, too_high, Outcome, Parser, ◌>>=◌}
+use Rattle.token_reading.specs.ReadType.{next, expect, ident, type_tree}
 use Rattle.java_reading.specs.ReadExpr.{Tall, Talls, binds, follows, args, operated, instance_of, conditional, element, member, behind}
-use Rattle.java_reading.proofs.Tests.{from_not_below}
-use Rattle.java_reading.proofs.Tokens.{then_length, type_length, from_sees, Plainly, Expected, expected, ident_written, type_written}
+use Rattle.token_reading.proofs.Tests.{from_not_below}
+use Rattle.token_reading.proofs.Lexemes.{then_length, type_length, from_sees, Limited, Plainly, Expected, expected, ident_written, TypeWithin, type_written}
 use Rattle.java_reading.proofs.Levels.{after, binary_range, lifts, lifts_or, follows_most, name_stop}
 use Rattle.java_reading.proofs.Growing.{grown, leveled, args_map}
 use Rattle.java_reading.proofs.Claims.{Written, Sound, Higher, ArgsSound}
 use Rattle.java_reading.proofs.Written.{wrote, Leads}
 use Rattle.java_reading.proofs.SoundArgs.{args_sound}
 
--- The operand `left` is written from xs to ys, and the token behind it at ys; zs stands behind that.
+-- The operand `left` is written from xs to ys, and the token after it at ys; zs stands after that.
 module _ (b : ℕ) (part : ℕ → Parser Tall) (sound : (l : ℕ) (xs : List Lexeme) → 1 ≤ l → l ≤ 13 → Sound b l xs (part l xs))
     (l : ℕ) (xs ys zs : List Lexeme) (left : Tall) (lw : Written (suc b) l xs left ys) (low : left.1 ≤ b) where
   -- the left operand as one of another level, in a higher tree
@@ -41,7 +42,7 @@ module _ (b : ℕ) (part : ℕ → Parser Tall) (sound : (l : ℕ) (xs : List Le
   binary_left op lv hold t (Ok p) s =
       let h = max left.1 p.0.1 in (
         wrote (suc b) h (h + 1) (Expr-F.Binary op left.0 p.0.0) (e.Binary op left.0 p.0.0) l xs p.1
-            (rolls-Binary op left.0 p.0.0) (omega arith) (omega (arith, s.0.low)) (omega (arith, lw.taken, then_length _ ys zs t, s.0.taken)) lv
+            (rolls-Binary op left.0 p.0.0) (omega arith) (omega arith) (omega (arith, s.0.low)) (omega (arith, lw.taken, then_length _ ys zs t, s.0.taken)) lv
             (omega (arith, s.1))
             (ys, as_operand h (binary_level op) (omega arith) hold, zs, t, grown p.0.1 h (omega arith) p.0.0 (binary_level op + 1) zs p.1 s.0.tree),
         omega arith,
@@ -51,22 +52,26 @@ module _ (b : ℕ) (part : ℕ → Parser Tall) (sound : (l : ℕ) (xs : List Le
 
   -- ---- `instanceof`
 
-  test_end : (t : TypeTree) (us : List Lexeme) → l ≤ 8 → 8 ≤ level (out-Expr left.0) → Then (k.Word w.Instanceof) ys zs → IsType t zs us
+  test_end : (t : TypeTree) (us : List Lexeme) → l ≤ 8 → 8 ≤ level (out-Expr left.0) → Then (k.Word w.Instanceof) ys zs → TypeWithin b t zs us
       → (tight : Bool) → nat_lt 8 (follows us) ≡ tight
-      → Higher (suc b) l xs left.1 (if tight then Err no_tree else Ok ((e.InstanceOf left.0 t, left.1 + 1), us))
+      → Higher (suc b) l xs left.1 (if tight then Err no_tree else Ok ((e.InstanceOf left.0 t, max (type_height t) left.1 + 1), us))
   test_end t us lv hold u v true tight = tt
-  test_end t us lv hold u v false tight = (
-    wrote (suc b) left.1 (left.1 + 1) (Expr-F.InstanceOf left.0 t) (e.InstanceOf left.0 t) l xs us (rolls-InstanceOf left.0 t) (omega arith) (omega arith)
-        (omega (arith, lw.taken, then_length _ ys zs u, type_length t zs us v)) lv (from_not_below 8 (follows us) tight)
-        (ys, as_operand left.1 8 (omega arith) hold, zs, u, v),
-    omega arith,
-  )
+  test_end t us lv hold u v false tight =
+      let h = max (type_height t) left.1 in (
+        wrote (suc b) h (h + 1) (Expr-F.InstanceOf left.0 t) (e.InstanceOf left.0 t) l xs us (rolls-InstanceOf left.0 t) (omega arith) (omega arith)
+            (omega (arith, v.1))
+            (omega (arith, lw.taken, then_length _ ys zs u, type_length t zs us v.0)) lv (from_not_below 8 (follows us) tight)
+            (ys, as_operand h 8 (omega arith) hold, zs, u, v.0),
+        omega arith,
+      )
 
-  test_left : l ≤ 8 → 8 ≤ level (out-Expr left.0) → Then (k.Word w.Instanceof) ys zs → (r : Outcome TypeTree) → Plainly IsType zs r
-      → Higher (suc b) l xs left.1 (r >>= (λ t us. if nat_lt 8 (follows us) then Err no_tree else Ok ((e.InstanceOf left.0 t, left.1 + 1), us)))
+  test_left : l ≤ 8 → 8 ≤ level (out-Expr left.0) → Then (k.Word w.Instanceof) ys zs → (r : Outcome TypeTree)
+      → Limited (TypeWithin b) (b < length zs) zs r
+      → Higher (suc b) l xs left.1 (r >>= (λ t us.
+      if nat_lt 8 (follows us) then Err no_tree else Ok ((e.InstanceOf left.0 t, max (type_height t) left.1 + 1), us)))
   test_left lv hold u (Ok p) v = test_end p.0 p.1 lv hold u v (nat_lt 8 (follows p.1)) refl
   test_left lv hold u (Err no_tree) v = tt
-  test_left lv hold u (Err too_high) v = absurd v
+  test_left lv hold u (Err too_high) v = omega (arith, lw.taken, then_length _ ys zs u)
 
   -- ---- `?` and `:`
 
@@ -76,7 +81,7 @@ module _ (b : ℕ) (part : ℕ → Parser Tall) (sound : (l : ℕ) (xs : List Le
   conditional_last us vs a lv hold t wa u (Ok p) s =
       let h = max left.1 (max a.1 p.0.1) in (
         wrote (suc b) h (h + 1) (Expr-F.Conditional left.0 a.0 p.0.0) (e.Conditional left.0 a.0 p.0.0) l xs p.1
-            (rolls-Conditional left.0 a.0 p.0.0) (omega arith) (omega (arith, s.0.low, wa.low))
+            (rolls-Conditional left.0 a.0 p.0.0) (omega arith) (omega arith) (omega (arith, s.0.low, wa.low))
             (omega (arith, lw.taken, then_length _ ys zs t, wa.taken, then_length _ us vs u, s.0.taken)) lv (omega (arith, s.1)) (
               ys,
               as_operand h 2 (omega arith) hold,
@@ -115,7 +120,7 @@ module _ (b : ℕ) (part : ℕ → Parser Tall) (sound : (l : ℕ) (xs : List Le
   element_close us i lv hold t wi (Ok p) u =
       let h = max left.1 i.1 in (
         wrote (suc b) h (h + 1) (Expr-F.Element left.0 i.0) (e.Element left.0 i.0) l xs p.1
-            (rolls-Element left.0 i.0) (omega arith) (omega (arith, wi.low))
+            (rolls-Element left.0 i.0) (omega arith) (omega arith) (omega (arith, wi.low))
             (omega (arith, lw.taken, then_length _ ys zs t, wi.taken, then_length _ us p.1 u)) lv (follows_most p.1)
             (ys, as_operand h 14 (omega arith) hold, zs, t, us, grown i.1 h (omega arith) i.0 1 zs us wi.tree, u),
         omega arith,
@@ -137,7 +142,7 @@ module _ (b : ℕ) (part : ℕ → Parser Tall) (sound : (l : ℕ) (xs : List Le
   method_left x us vs lv hold t u v (Ok p) s =
       let h = max left.1 p.0.1 in (
         wrote (suc b) h (h + 1) (Expr-F.Method left.0 x p.0.0) (e.Method left.0 x p.0.0) l xs p.1
-            (rolls-Method left.0 x p.0.0) (omega arith) (omega (arith, s.1))
+            (rolls-Method left.0 x p.0.0) (omega arith) (omega arith) (omega (arith, s.1))
             (omega (arith, lw.taken, then_length _ ys zs t, ap length u, then_length _ us vs v, s.2)) lv (follows_most p.1) (
               ys,
               as_operand h 14 (omega arith) hold,
@@ -162,7 +167,7 @@ module _ (b : ℕ) (part : ℕ → Parser Tall) (sound : (l : ℕ) (xs : List Le
       method_left x us (next us) lv hold t u (from_sees o.LeftParen us is) (args part (next us)) (args_sound b part sound (next us))
   member_test x us lv hold t u false is = (
     wrote (suc b) left.1 (left.1 + 1) (Expr-F.Field left.0 x) (e.Field left.0 x) l xs us
-        (rolls-Field left.0 x) (omega arith) (omega arith)
+        (rolls-Field left.0 x) (omega arith) (omega arith) (omega arith)
         (omega (arith, lw.taken, then_length _ ys zs t, ap length u)) lv (name_stop us is)
         (ys, as_operand left.1 14 (omega arith) hold, zs, t, u),
     omega arith,
@@ -176,12 +181,12 @@ module _ (b : ℕ) (part : ℕ → Parser Tall) (sound : (l : ℕ) (xs : List Le
   member_left lv hold t (Err no_tree) u = tt
   member_left lv hold t (Err too_high) u = absurd u
 
-  pub behind_left : (i : Infix) → l ≤ binds i → binds i ≤ after (out-Expr left.0) → Leads i ys → zs ≡ next ys → Higher (suc b) l xs left.1 (behind part left i zs)
+  pub behind_left : (i : Infix) → l ≤ binds i → binds i ≤ after (out-Expr left.0) → Leads i ys → zs ≡ next ys → Higher (suc b) l xs left.1 (behind b part left i zs)
   unfolding operated instance_of conditional element member
   behind_left (i.Binary op) lv hold t is =
       binary_left op lv (lifts (out-Expr left.0) (binary_level op) (omega (arith, (binary_range op).1)) hold) (rw is t) (part (binary_level op + 1) zs)
       (sound (binary_level op + 1) zs (omega arith) (omega (arith, (binary_range op).1)))
-  behind_left i.InstanceOf lv hold t is = test_left lv (lifts (out-Expr left.0) 8 (omega arith) hold) (rw is t) (type_tree zs) (type_written zs)
+  behind_left i.InstanceOf lv hold t is = test_left lv (lifts (out-Expr left.0) 8 (omega arith) hold) (rw is t) (type_tree b zs) (type_written b zs)
   behind_left i.Question lv hold t is = conditional_left lv (lifts_or (out-Expr left.0) hold) (rw is t) (part 1 zs) (sound 1 zs (omega arith) (omega arith))
   behind_left i.Dot lv hold t is = member_left lv (lifts (out-Expr left.0) 14 (omega arith) hold) (rw is t) (ident zs) (ident_written zs)
   behind_left i.Bracket lv hold t is = element_left lv (lifts (out-Expr left.0) 14 (omega arith) hold) (rw is t) (part 1 zs) (sound 1 zs (omega arith) (omega arith))

@@ -7,27 +7,27 @@ use Rattle.java_tokens.specs.declared.token.Operator.TheVariants as o
 use Rattle.java_tokens.specs.declared.token.TokenKind.{TokenKind}
 use Rattle.java_tokens.specs.declared.token.TokenKind.TheVariants as k
 use Rattle.java_syntax.specs.declared.expression.Expr.{Expr}
-use Rattle.java_syntax.specs.declared.name.BaseType.{BaseType}
-use Rattle.java_syntax.specs.declared.name.BaseType.TheVariants as base
-use Rattle.java_syntax.specs.declared.name.Ident.{Ident}
-use Rattle.java_syntax.specs.declared.name.TypeTree.{TypeTree}
+use Rattle.token_reading.specs.declared.name.BaseType.{BaseType}
+use Rattle.token_reading.specs.declared.name.BaseType.TheVariants as base
+use Rattle.token_reading.specs.declared.name.Ident.{Ident}
+use Rattle.token_reading.specs.declared.name.TypeTree.{TypeTree}
 use Rattle.java_syntax.specs.declared.operator.Fix.{Fix}
 use Rattle.java_syntax.specs.declared.operator.Fix.TheVariants as fix
 use Rattle.java_syntax.specs.declared.operator.StepOp.{StepOp}
 use Rattle.java_syntax.specs.declared.operator.StepOp.TheVariants as step
 use Rattle.java_syntax.specs.declared.statement.Stmt.{Stmt}
 use Rattle.java_syntax.specs.declared.statement.Stmt.TheOpen.{Stmt-F}
-use Rattle.java_syntax.specs.Lexeme.{Lexeme, lexeme, Then, sees, same_keyword}
-use Rattle.java_syntax.specs.Types.{IsIdent, Brackets, IsBase, IsType}
+use Rattle.token_reading.specs.Lexeme.{Lexeme, lexeme, Then, sees, same_keyword}
+use Rattle.token_reading.specs.Types.{IsIdent, Brackets, IsBase, IsType}
 use Rattle.java_syntax.specs.Exprs.{begins_plain_keyword, Within}
 use Rattle.java_syntax.specs.Stmts.{StmtLayer, step_sign, is_declaration, Initial, Steps, Unended, MoreSimples}
-use Rattle.java_reading.specs.Outcome.{Parser}
-use Rattle.java_reading.specs.ReadType.{is_local, is_super_call}
+use Rattle.token_reading.specs.Outcome.{Parser}
 use Rattle.java_reading.specs.ReadStmt.{step_operator, word_stmt, stmt_by, simple_stmt, plain_stmt}
 use Rattle.java_reading.proofs.Begins.{begins_operator, begins, Begins}
 use Rattle.java_reading.proofs.ExprFacts.{ExprFacts}
 use Rattle.java_reading.proofs.SimpleFound.{kind_at, no_sign, assign_declares, step_declares, Closes}
-use Rattle.java_reading.proofs.Tokens.{then_length, sees_it, type_length, from_sees}
+use Rattle.token_reading.proofs.Lexemes.{then_length, sees_it, type_length, from_sees}
+use Rattle.java_reading.specs.Lookahead.{is_local, is_super_call}
 
 -- ---- lengths
 

@@ -12,20 +12,21 @@ use Rattle.java_syntax.specs.declared.statement.Stmt.{Stmt, out-Stmt, roll-Stmt}
 use Rattle.java_syntax.specs.declared.statement.Stmt.TheOpen.{Stmt-F}
 use Rattle.java_syntax.specs.declared.statement.Stmt.TheVariants.{rolls-Empty, rolls-Block, rolls-Super, rolls-If, rolls-While, rolls-DoWhile, rolls-For, rolls-Return, rolls-Break, rolls-Continue, rolls-Throw, rolls-Try}
 use Rattle.java_syntax.specs.declared.statement.Stmt.TheViews.{roll-out-Stmt, roll-out-CatchTree}
-use Rattle.java_syntax.specs.Lexeme.{Lexeme, Then, sees, same_operator}
+use Rattle.token_reading.specs.Lexeme.{Lexeme, Then, sees, same_operator}
 use Rattle.java_syntax.specs.Exprs.{Within, Args}
-use Rattle.java_syntax.specs.Stmts.{StmtLayer, is_declaration, MayStand, Unended, UnendedWithin, Simple, MoreSimples, Simples, Declares, Start, Stmts, Condition, Ended, Otherwise, IsBlock, Catch, Catches, Finally, StmtNode, StmtWithin}
-use Rattle.java_reading.specs.ReadType.{is_local}
+use Rattle.java_syntax.specs.Stmts.{StmtLayer, is_declaration, MayStand, Unended, local_type_height, UnendedWithin, Simple, MoreSimples, Simples, Declares, Start, Stmts, Condition, Ended, Otherwise, IsBlock, Catch, Catches, Finally, StmtNode, StmtWithin}
 use Rattle.java_reading.specs.ReadStmt.{step_operator, value, arguments, unended, stmts, block, inner_block, condition, ended, otherwise, if_stmt, while_stmt, do_stmt, more_simples, simples, start, for_stmt, return_stmt, throw_stmt, super_stmt, catch, catches, finally, try_stmt, local_stmt, simple_stmt, plain_stmt, stmt, statement}
 use Rattle.java_reading.proofs.ArgsFacts.{ArgsFacts}
 use Rattle.java_reading.proofs.Begins.{begins_operator}
 use Rattle.java_reading.proofs.Claims.{ArgsDone, args_done, args_over}
 use Rattle.java_reading.proofs.ExprFacts.{ExprFacts}
-use Rattle.java_reading.proofs.SimpleFound.{op_or, word_or, ident_or, no_sign, Closes, semicolon_closes, comma_closes, paren_closes, value_or, declaration_or, simple_or}
-use Rattle.java_reading.proofs.StmtLengths.{none_or, header_length, header_other, declares_local, header_simple_local, header_or, stmts_length, catches_length, stmt_length, stmt_no_brace, block_brace}
+use Rattle.java_reading.proofs.SimpleFound.{no_sign, Closes, semicolon_closes, comma_closes, paren_closes, value_or, declaration_or, simple_or}
+use Rattle.java_reading.proofs.StmtLengths.{header_length, header_other, declares_local, header_simple_local, header_or, stmts_length, catches_length, stmt_length, stmt_no_brace, block_brace}
 use Rattle.java_reading.proofs.StmtBegins.{more_simples_length, type_local, simple_local, unended_simple}
-use Rattle.java_reading.proofs.Steps.{Or, found, higher, or_then, raise}
-use Rattle.java_reading.proofs.Tokens.{sees_it, sees_word_it}
+use Rattle.token_reading.proofs.Steps.{Or, found, higher, or_then, raise}
+use Rattle.token_reading.proofs.Lexemes.{sees_it, sees_word_it}
+use Rattle.java_reading.specs.Lookahead.{is_local}
+use Rattle.token_reading.proofs.Found.{op_or, word_or, ident_or, none_or}
 
 -- what is known of the statements that are lower than the whole
 abbrev Finds : ℕ → ℕ → Type 0
@@ -170,7 +171,7 @@ module _ (facts : ExprFacts) (args_facts : ArgsFacts) (n b : ℕ) where
 
     plain_or : (f : StmtLayer) (in_block : Bool) (xs rest : List Lexeme) → is_declaration f ≡ false
         → ((ys : List Lexeme) × Unended (Within n) f xs ys × Then (k.Op o.Semicolon) ys rest)
-        → Or n b (stmt (value b) (arguments b) (unended b) (statement b) in_block xs) (Ok (roll-Stmt f, rest))
+        → Or n b (stmt b (value b) (arguments b) (unended b) (statement b) in_block xs) (Ok (roll-Stmt f, rest))
     unfolding stmt simple_stmt
     plain_or f in_block xs rest other w =
         let c = semicolon_closes w.0 rest w.2 in
@@ -180,47 +181,47 @@ module _ (facts : ExprFacts) (args_facts : ArgsFacts) (n b : ℕ) where
         )
         (or_then _ (simple_or facts n b f xs w.0 other w.1 c) (or_then _ (op_or n b o.Semicolon w.0 rest w.2) (found refl)))
 
-    node_or : (f : StmtLayer) (in_block : Bool) (xs rest : List Lexeme) → MayStand in_block f
+    node_or : (f : StmtLayer) (in_block : Bool) (xs rest : List Lexeme) → MayStand in_block f → local_type_height f ≤ n
         → StmtNode (Within n) (UnendedWithin n) (StmtWithin n) f xs rest
-        → Or n b (stmt (value b) (arguments b) (unended b) (statement b) in_block xs) (Ok (roll-Stmt f, rest))
+        → Or n b (stmt b (value b) (arguments b) (unended b) (statement b) in_block xs) (Ok (roll-Stmt f, rest))
     unfolding stmt plain_stmt block if_stmt while_stmt do_stmt for_stmt return_stmt throw_stmt super_stmt try_stmt local_stmt
-    node_or Stmt-F.Empty in_block xs rest may w = rw (rolls-Empty, w.1) (found refl)
-    node_or (Stmt-F.Block all) in_block xs rest may w =
+    node_or Stmt-F.Empty in_block xs rest may fit w = rw (rolls-Empty, w.1) (found refl)
+    node_or (Stmt-F.Block all) in_block xs rest may fit w =
         rw (rolls-Block all, w.1.1) (or_then _ (body_or all w.0 rest w.2) (found refl))
-    node_or (Stmt-F.Local t) in_block xs rest may w =
+    node_or (Stmt-F.Local t) in_block xs rest may fit w =
         rw (type_local facts n t.ty t.name xs w.1.0 w.1.2 w.1.1 w.1.3, may)
-        (or_then _ (declaration_or facts n b t xs w.0 w.1 (semicolon_closes w.0 rest w.2))
+        (or_then _ (declaration_or facts n b t xs w.0 fit w.1 (semicolon_closes w.0 rest w.2))
         (or_then _ (op_or n b o.Semicolon w.0 rest w.2) (found refl)))
-    node_or (Stmt-F.Super at given) in_block xs rest may w =
+    node_or (Stmt-F.Super at given) in_block xs rest may fit w =
         rw (rolls-Super at given, w.1, w.3.1, sees_it o.LeftParen w.3.0 w.2)
         (or_then _ (op_or n b o.LeftParen _ w.2 (w.3.0, refl))
         (or_then _ (arguments_or given w.2 w.4 w.5) (or_then _ (op_or n b o.Semicolon w.4 rest w.6) (found refl))))
-    node_or (Stmt-F.If c s other) in_block xs rest may w =
+    node_or (Stmt-F.If c s other) in_block xs rest may fit w =
         rw (rolls-If c s other, w.1.1)
         (or_then _ (condition_or c w.0 w.2 w.3) (or_then _ (ih false s w.2 w.4 w.5) (or_then _ (otherwise_or other w.4 rest w.6) (found refl))))
-    node_or (Stmt-F.While c s) in_block xs rest may w =
+    node_or (Stmt-F.While c s) in_block xs rest may fit w =
         rw (rolls-While c s, w.1.1) (or_then _ (condition_or c w.0 w.2 w.3) (or_then _ (ih false s w.2 rest w.4) (found refl)))
-    node_or (Stmt-F.DoWhile s c) in_block xs rest may w =
+    node_or (Stmt-F.DoWhile s c) in_block xs rest may fit w =
         rw (rolls-DoWhile s c, w.1.1)
         (or_then _ (ih false s w.0 w.2 w.3) (or_then _ (word_or n b word.While w.2 w.4 w.5)
         (or_then _ (condition_or c w.4 w.6 w.7) (or_then _ (op_or n b o.Semicolon w.6 rest w.8) (found refl)))))
-    node_or (Stmt-F.For first c update s) in_block xs rest may w =
+    node_or (Stmt-F.For first c update s) in_block xs rest may fit w =
         rw (rolls-For first c update s, w.1.1)
         (or_then _ (op_or n b o.LeftParen w.0 w.2 w.3) (or_then _ (start_or first w.2 w.4 w.5) (or_then _ (ended_or c w.4 w.6 w.7)
         (or_then _ (simples_or o.RightParen paren_closes paren_no_comma refl refl update w.6 w.8 w.9)
         (or_then _ (ih false s w.8 rest w.10) (found refl))))))
-    node_or (Stmt-F.Return at e) in_block xs rest may w = rw (rolls-Return at e, w.1) (or_then _ (ended_or e w.0 rest w.2) (found refl))
-    node_or (Stmt-F.Break at) in_block xs rest may w = rw (rolls-Break at, w.1) (or_then _ (op_or n b o.Semicolon w.0 rest w.2) (found refl))
-    node_or (Stmt-F.Continue at) in_block xs rest may w = rw (rolls-Continue at, w.1) (or_then _ (op_or n b o.Semicolon w.0 rest w.2) (found refl))
-    node_or (Stmt-F.Throw e) in_block xs rest may w =
+    node_or (Stmt-F.Return at e) in_block xs rest may fit w = rw (rolls-Return at e, w.1) (or_then _ (ended_or e w.0 rest w.2) (found refl))
+    node_or (Stmt-F.Break at) in_block xs rest may fit w = rw (rolls-Break at, w.1) (or_then _ (op_or n b o.Semicolon w.0 rest w.2) (found refl))
+    node_or (Stmt-F.Continue at) in_block xs rest may fit w = rw (rolls-Continue at, w.1) (or_then _ (op_or n b o.Semicolon w.0 rest w.2) (found refl))
+    node_or (Stmt-F.Throw e) in_block xs rest may fit w =
         rw (rolls-Throw e, w.1.1) (or_then _ (value_or facts n b e 1 w.0 w.2 w.3 (rw w.4.1 refl))
         (or_then _ (op_or n b o.Semicolon w.2 rest w.4) (found refl)))
-    node_or (Stmt-F.Try body clauses last) in_block xs rest may w =
+    node_or (Stmt-F.Try body clauses last) in_block xs rest may fit w =
         rw (rolls-Try body clauses last, w.1.1)
         (or_then _ (inner_or body w.0 w.2 w.3)
         (or_then _ (catches_or clauses (length w.2) [] w.2 w.4 (omega (arith, catches_length facts n (stmt_length facts n) clauses w.2 w.4 w.5)) w.5)
         (or_then _ (finally_or last w.4 rest w.6) (found (rw w.7 refl)))))
-    node_or f in_block xs rest may w = plain_or f in_block xs rest refl w
+    node_or f in_block xs rest may fit w = plain_or f in_block xs rest refl w
 
 -- A statement that is written is found, or it is higher than the budget.
 pub stmt_found : ExprFacts → ArgsFacts → (n b : ℕ) (in_block : Bool) (t : Stmt) (xs rest : List Lexeme) → StmtWithin n in_block t xs rest
@@ -230,5 +231,5 @@ stmt_found facts args_facts zero b in_block t xs rest w = absurd w
 stmt_found facts args_facts (suc n) zero in_block t xs rest w =
     none_or n xs (Ok (t, rest)) (omega (arith, stmt_length facts (suc n) in_block t xs rest w))
 stmt_found facts args_facts (suc n) (suc b) in_block t xs rest w =
-    raise (subst (λ (d : Stmt). Or n b (stmt (value b) (arguments b) (unended b) (statement b) in_block xs) (Ok (d, rest))) (roll-out-Stmt t)
-    (node_or facts args_facts n b (stmt_found facts args_facts n b) (out-Stmt t) in_block xs rest w.0 w.1))
+    raise (subst (λ (d : Stmt). Or n b (stmt b (value b) (arguments b) (unended b) (statement b) in_block xs) (Ok (d, rest))) (roll-out-Stmt t)
+    (node_or facts args_facts n b (stmt_found facts args_facts n b) (out-Stmt t) in_block xs rest w.0 w.2 w.1))

@@ -1,6 +1,6 @@
 -- The height of a statement is the least number with which it is written, and it is written with each greater one.
 use Rattle.std.proofs.Math.Logic.{inl, inr}
-use Rattle.std.proofs.Common.{◌≡◌, ℕ, zero, suc, ◌+◌, ◌≤◌, max, List, [], ◌∷◌, Bool, true, false, Option, Some, None, map, arith, subst}
+use Rattle.std.proofs.Common.{◌≡◌, ℕ, zero, suc, ◌+◌, ◌≤◌, ◌<◌, max, List, [], ◌∷◌, Bool, true, false, Option, Some, None, map, arith, subst}
 use Rattle.java_tokens.specs.declared.token.Operator.{Operator}
 use Rattle.java_tokens.specs.declared.token.Operator.TheVariants as o
 use Rattle.java_syntax.specs.declared.expression.Expr.{Expr}
@@ -12,11 +12,12 @@ use Rattle.java_syntax.specs.declared.statement.Stmt.{Stmt, out-Stmt, roll-Stmt}
 use Rattle.java_syntax.specs.declared.statement.Stmt.TheFolds.{fold-roll-Stmt, fold_out-CatchTree}
 use Rattle.java_syntax.specs.declared.statement.Stmt.TheOpen.{Stmt-F}
 use Rattle.java_syntax.specs.declared.statement.Stmt.TheViews.{roll-out-Stmt}
-use Rattle.java_syntax.specs.Lexeme.{Lexeme}
+use Rattle.token_reading.specs.Lexeme.{Lexeme}
 use Rattle.java_syntax.specs.Exprs.{Within}
-use Rattle.java_syntax.specs.Stmts.{StmtLayer, Initial, Steps, Unended, UnendedWithin, MoreSimples, Simples, Declares, Start, Stmts, Condition, Ended, Otherwise, IsBlock, Catches, Finally, StmtNode, StmtWithin}
-use Rattle.java_syntax.specs.Height.{highest, expr_height, value_height, stmt_layer_height, catch_layer_height, stmt_height, catch_height}
+use Rattle.java_syntax.specs.Stmts.{StmtLayer, Initial, Steps, Unended, local_type_height, UnendedWithin, MoreSimples, Simples, Declares, Start, Stmts, Condition, Ended, Otherwise, IsBlock, Catches, Finally, StmtNode, StmtWithin}
+use Rattle.java_syntax.specs.Height.{expr_height, value_height, stmt_layer_height, catch_layer_height, stmt_height, catch_height}
 use Rattle.java_reading.proofs.Growing.{at_most, args_low, args_fit, fitting}
+use Rattle.token_reading.specs.Height.{highest, type_height}
 
 -- ---- the height of a node, by those of its parts
 
@@ -38,7 +39,7 @@ height_by (Stmt-F.Break at) = 1
 height_by (Stmt-F.Continue at) = 1
 height_by (Stmt-F.Throw e) = expr_height e + 1
 height_by (Stmt-F.Try body clauses last) = max (stmt_height body) (max (highest (map catch_height clauses)) (inner_height last)) + 1
-height_by (Stmt-F.Local t) = value_height t.value + 1
+height_by (Stmt-F.Local t) = max (type_height t.ty) (value_height t.value) + 1
 height_by (Stmt-F.Assign a op e) = max (expr_height a) (expr_height e) + 1
 height_by (Stmt-F.Step op side a) = expr_height a + 1
 height_by (Stmt-F.Eval e) = expr_height e + 1
@@ -79,17 +80,17 @@ steps_low : (n : ℕ) (op : StepOp) (a : Expr) (side : Fix) (xs rest : List Lexe
 steps_low n op a fix.Before xs rest w = at_most n a 14 w.0 rest w.2
 steps_low n op a fix.Behind xs rest w = at_most n a 14 xs w.0 w.1
 
-unended_low : (n : ℕ) (f : StmtLayer) (xs rest : List Lexeme) → Unended (Within n) f xs rest → height_by f ≤ n + 1
-unended_low n (Stmt-F.Local t) xs rest w = omega (arith, initial_low n t.value w.2 rest w.4)
-unended_low n (Stmt-F.Assign a op e) xs rest w = omega (arith, at_most n a 14 xs w.0 w.1, at_most n e 1 w.2 rest w.4)
-unended_low n (Stmt-F.Step op side a) xs rest w = omega (arith, steps_low n op a side xs rest w)
-unended_low n (Stmt-F.Eval e) xs rest w = omega (arith, at_most n e 1 xs rest w)
-unended_low n _ xs rest w = absurd w
+unended_low : (n : ℕ) (f : StmtLayer) (xs rest : List Lexeme) → local_type_height f ≤ n → Unended (Within n) f xs rest → height_by f ≤ n + 1
+unended_low n (Stmt-F.Local t) xs rest fit w = omega (arith, initial_low n t.value w.2 rest w.4)
+unended_low n (Stmt-F.Assign a op e) xs rest fit w = omega (arith, at_most n a 14 xs w.0 w.1, at_most n e 1 w.2 rest w.4)
+unended_low n (Stmt-F.Step op side a) xs rest fit w = omega (arith, steps_low n op a side xs rest w)
+unended_low n (Stmt-F.Eval e) xs rest fit w = omega (arith, at_most n e 1 xs rest w)
+unended_low n _ xs rest fit w = absurd w
 
 header_low : (n : ℕ) (s : Stmt) (xs rest : List Lexeme) → UnendedWithin n s xs rest → stmt_height s ≤ n
 unfolding UnendedWithin
 header_low zero s xs rest w = absurd w
-header_low (suc n) s xs rest w = omega (arith, as_layer s, unended_low n (out-Stmt s) xs rest w)
+header_low (suc n) s xs rest w = omega (arith, as_layer s, unended_low n (out-Stmt s) xs rest w.1 w.0)
 
 more_simples_low : (n : ℕ) (close : Operator) (all : List Stmt) (xs rest : List Lexeme) → MoreSimples (UnendedWithin n) close all xs rest
     → highest (map stmt_height all) ≤ n
@@ -135,28 +136,29 @@ module _ (n : ℕ) (low : (in_block : Bool) (t : Stmt) (xs rest : List Lexeme) �
   finally_low None xs rest w = omega arith
   finally_low (Some s) xs rest w = low false s w.0 rest w.2.1
 
-  node_low : (f : StmtLayer) (xs rest : List Lexeme) → StmtNode (Within n) (UnendedWithin n) (StmtWithin n) f xs rest → height_by f ≤ n + 1
-  node_low Stmt-F.Empty xs rest w = omega arith
-  node_low (Stmt-F.Block all) xs rest w = omega (arith, stmts_low all w.0 rest w.2)
-  node_low (Stmt-F.Super at given) xs rest w = omega (arith, args_low n (Within n) (at_most n) given w.2 w.4 w.5)
-  node_low (Stmt-F.If c s other) xs rest w =
+  node_low : (f : StmtLayer) (xs rest : List Lexeme) → local_type_height f ≤ n → StmtNode (Within n) (UnendedWithin n) (StmtWithin n) f xs rest
+      → height_by f ≤ n + 1
+  node_low Stmt-F.Empty xs rest fit w = omega arith
+  node_low (Stmt-F.Block all) xs rest fit w = omega (arith, stmts_low all w.0 rest w.2)
+  node_low (Stmt-F.Super at given) xs rest fit w = omega (arith, args_low n (Within n) (at_most n) given w.2 w.4 w.5)
+  node_low (Stmt-F.If c s other) xs rest fit w =
       omega (arith, at_most n c 1 w.3.0 w.3.2 w.3.3, low false s w.2 w.4 w.5, otherwise_low other w.4 rest w.6)
-  node_low (Stmt-F.While c s) xs rest w = omega (arith, at_most n c 1 w.3.0 w.3.2 w.3.3, low false s w.2 rest w.4)
-  node_low (Stmt-F.DoWhile s c) xs rest w = omega (arith, low false s w.0 w.2 w.3, at_most n c 1 w.7.0 w.7.2 w.7.3)
-  node_low (Stmt-F.For first c update s) xs rest w =
+  node_low (Stmt-F.While c s) xs rest fit w = omega (arith, at_most n c 1 w.3.0 w.3.2 w.3.3, low false s w.2 rest w.4)
+  node_low (Stmt-F.DoWhile s c) xs rest fit w = omega (arith, low false s w.0 w.2 w.3, at_most n c 1 w.7.0 w.7.2 w.7.3)
+  node_low (Stmt-F.For first c update s) xs rest fit w =
       omega (arith, start_low n first w.2 w.4 w.5, ended_low c w.4 w.6 w.7, simples_low n o.RightParen update w.6 w.8 w.9, low false s w.8 rest w.10)
-  node_low (Stmt-F.Return at e) xs rest w = omega (arith, ended_low e w.0 rest w.2)
-  node_low (Stmt-F.Break at) xs rest w = omega arith
-  node_low (Stmt-F.Continue at) xs rest w = omega arith
-  node_low (Stmt-F.Throw e) xs rest w = omega (arith, at_most n e 1 w.0 w.2 w.3)
-  node_low (Stmt-F.Try body clauses last) xs rest w =
+  node_low (Stmt-F.Return at e) xs rest fit w = omega (arith, ended_low e w.0 rest w.2)
+  node_low (Stmt-F.Break at) xs rest fit w = omega arith
+  node_low (Stmt-F.Continue at) xs rest fit w = omega arith
+  node_low (Stmt-F.Throw e) xs rest fit w = omega (arith, at_most n e 1 w.0 w.2 w.3)
+  node_low (Stmt-F.Try body clauses last) xs rest fit w =
       omega (arith, low false body w.0 w.2 w.3.1, catches_low clauses w.2 w.4 w.5, finally_low last w.4 rest w.6)
-  node_low f xs rest w = unended_low n f xs w.0 w.1
+  node_low f xs rest fit w = unended_low n f xs w.0 fit w.1
 
 pub stmt_at_most : (n : ℕ) (in_block : Bool) (t : Stmt) (xs rest : List Lexeme) → StmtWithin n in_block t xs rest → stmt_height t ≤ n
 unfolding StmtWithin
 stmt_at_most zero in_block t xs rest w = absurd w
-stmt_at_most (suc n) in_block t xs rest w = omega (arith, as_layer t, node_low n (stmt_at_most n) (out-Stmt t) xs rest w.1)
+stmt_at_most (suc n) in_block t xs rest w = omega (arith, as_layer t, node_low n (stmt_at_most n) (out-Stmt t) xs rest w.2 w.1)
 
 pub body_at_most : (n : ℕ) (all : List Stmt) (xs rest : List Lexeme) → Stmts (Within n) (UnendedWithin n) (StmtWithin n) all xs rest
     → highest (map stmt_height all) ≤ n
@@ -182,7 +184,7 @@ module _ (n m : ℕ) where
   unended_fit (Stmt-F.Eval e) xs rest low w = fitting n m e 1 xs rest (omega arith) w
   unended_fit _ xs rest low w = absurd w
 
-node_height : (f : StmtLayer) → 1 ≤ height_by f
+node_height : (f : StmtLayer) → local_type_height f < height_by f
 node_height Stmt-F.Empty = omega arith
 node_height _ = omega arith
 
@@ -190,7 +192,8 @@ header_fit : (n m : ℕ) (s : Stmt) (xs rest : List Lexeme) → stmt_height s �
 unfolding UnendedWithin
 header_fit zero m s xs rest low w = absurd w
 header_fit (suc n) zero s xs rest low w = absurd (omega (arith, as_layer s, node_height (out-Stmt s)))
-header_fit (suc n) (suc m) s xs rest low w = unended_fit n m (out-Stmt s) xs rest (omega (arith, as_layer s)) w
+header_fit (suc n) (suc m) s xs rest low w =
+    (unended_fit n m (out-Stmt s) xs rest (omega (arith, as_layer s)) w.0, omega (arith, as_layer s, node_height (out-Stmt s)))
 
 module _ (n m : ℕ) where
   more_simples_fit : (close : Operator) (all : List Stmt) (xs rest : List Lexeme) → highest (map stmt_height all) ≤ m
@@ -321,8 +324,11 @@ pub stmt_fit : (n m : ℕ) (in_block : Bool) (t : Stmt) (xs rest : List Lexeme) 
 unfolding StmtWithin
 stmt_fit zero m in_block t xs rest low w = absurd w
 stmt_fit (suc n) zero in_block t xs rest low w = absurd (omega (arith, as_layer t, node_height (out-Stmt t)))
-stmt_fit (suc n) (suc m) in_block t xs rest low w =
-    (w.0, node_fit n m (stmt_fit n m) (out-Stmt t) xs rest (omega (arith, as_layer t)) w.1)
+stmt_fit (suc n) (suc m) in_block t xs rest low w = (
+  w.0,
+  node_fit n m (stmt_fit n m) (out-Stmt t) xs rest (omega (arith, as_layer t)) w.1,
+  omega (arith, as_layer t, node_height (out-Stmt t)),
+)
 
 pub body_fit : (n m : ℕ) (all : List Stmt) (xs rest : List Lexeme) → highest (map stmt_height all) ≤ m
     → Stmts (Within n) (UnendedWithin n) (StmtWithin n) all xs rest → Stmts (Within m) (UnendedWithin m) (StmtWithin m) all xs rest

@@ -8,25 +8,19 @@ use Rattle.java_syntax.specs.declared.statement.CatchTree.{CatchTree, out-CatchT
 use Rattle.java_syntax.specs.declared.statement.Stmt.{Stmt, out-Stmt, roll-Stmt}
 use Rattle.java_syntax.specs.declared.statement.Stmt.TheOpen.{Stmt-F}
 use Rattle.java_syntax.specs.declared.statement.Stmt.TheViews.{roll-out-Stmt}
-use Rattle.java_syntax.specs.Lexeme.{Lexeme, sees, same_operator}
+use Rattle.token_reading.specs.Lexeme.{Lexeme, sees, same_operator}
 use Rattle.java_syntax.specs.Exprs.{Within}
-use Rattle.java_syntax.specs.Stmts.{StmtLayer, is_declaration, is_block, Unended, UnendedWithin, Simple, Simples, Declares, Start, Stmts, Condition, Ended, Otherwise, Catch, Catches, Finally, StmtNode, StmtWithin}
-use Rattle.java_reading.specs.Outcome.{Outcome}
-use Rattle.java_reading.specs.ReadType.{is_local}
-use Rattle.java_reading.specs.ReadStmt.{step_operator, none_fits, unended}
+use Rattle.java_syntax.specs.Stmts.{StmtLayer, is_declaration, is_block, Unended, local_type_height, UnendedWithin, Simple, Simples, Declares, Start, Stmts, Condition, Ended, Otherwise, Catch, Catches, Finally, StmtNode, StmtWithin}
+use Rattle.java_reading.specs.ReadStmt.{step_operator, unended}
 use Rattle.java_reading.proofs.Begins.{begins_operator}
 use Rattle.java_reading.proofs.ExprFacts.{ExprFacts}
 use Rattle.java_reading.proofs.Shorter.{args_length}
 use Rattle.java_reading.proofs.SimpleFound.{Closes, declaration_or, simple_or}
 use Rattle.java_reading.proofs.StmtBegins.{unended_length, more_simples_length, unended_other, type_local, simple_local}
-use Rattle.java_reading.proofs.Steps.{Or, higher, raise}
-use Rattle.java_reading.proofs.Tokens.{then_length, sees_it}
-
--- with no budget left, a list that isn't empty is too high
-pub none_or : {A : Type 0} (n : ℕ) (xs : List Lexeme) (good : Outcome A) → 0 < length xs → Or (suc n) 0 (none_fits xs) good
-unfolding none_fits
-none_or n [] good h = absurd (omega arith)
-none_or n (x ∷ xs) good h = higher (omega arith) refl
+use Rattle.token_reading.proofs.Steps.{Or, raise}
+use Rattle.token_reading.proofs.Lexemes.{then_length, sees_it}
+use Rattle.java_reading.specs.Lookahead.{is_local}
+use Rattle.token_reading.proofs.Found.{none_or}
 
 module _ (facts : ExprFacts) where
   -- ---- in the header of a `for`
@@ -34,13 +28,13 @@ module _ (facts : ExprFacts) where
   pub header_length : (n : ℕ) (s : Stmt) (xs rest : List Lexeme) → UnendedWithin n s xs rest → length rest < length xs
   unfolding UnendedWithin
   header_length zero s xs rest w = absurd w
-  header_length (suc n) s xs rest w = unended_length (Within n) (facts.shorter n) (out-Stmt s) xs rest w
+  header_length (suc n) s xs rest w = unended_length (Within n) (facts.shorter n) (out-Stmt s) xs rest w.0
 
   pub header_other : (n : ℕ) (sign : Operator) → begins_operator sign ≡ false → step_operator sign ≡ None → (s : Stmt) (xs rest : List Lexeme)
       → UnendedWithin n s xs rest → sees sign xs ≡ false
   unfolding UnendedWithin
   header_other zero sign no_ none s xs rest w = absurd w
-  header_other (suc n) sign no_ none s xs rest w = unended_other facts n sign no_ none (out-Stmt s) xs rest w
+  header_other (suc n) sign no_ none s xs rest w = unended_other facts n sign no_ none (out-Stmt s) xs rest w.0
 
   declares_local_by : (n : ℕ) (f : StmtLayer) (xs rest : List Lexeme) → is_declaration f ≡ true → Unended (Within n) f xs rest → is_local xs ≡ true
   declares_local_by n (Stmt-F.Local t) xs rest is w = type_local facts n t.ty t.name xs w.0 w.2 w.1 w.3
@@ -50,29 +44,30 @@ module _ (facts : ExprFacts) where
       → is_local xs ≡ true
   unfolding UnendedWithin
   declares_local zero s xs rest is w = absurd w
-  declares_local (suc n) s xs rest is w = declares_local_by n (out-Stmt s) xs rest is w
+  declares_local (suc n) s xs rest is w = declares_local_by n (out-Stmt s) xs rest is w.0
 
   pub header_simple_local : (n : ℕ) (s : Stmt) (xs rest : List Lexeme) → Simple (UnendedWithin n) s xs rest → Closes rest → is_local xs ≡ false
   unfolding UnendedWithin
   header_simple_local zero s xs rest w c = absurd w.1
-  header_simple_local (suc n) s xs rest w c = simple_local facts n (out-Stmt s) xs rest w.0 w.1 c
+  header_simple_local (suc n) s xs rest w c = simple_local facts n (out-Stmt s) xs rest w.0 w.1.0 c
 
-  header_by : (n b : ℕ) (d : Bool) (f : StmtLayer) (xs rest : List Lexeme) → is_declaration f ≡ d → Unended (Within n) f xs rest → Closes rest
+  header_by : (n b : ℕ) (d : Bool) (f : StmtLayer) (xs rest : List Lexeme) → is_declaration f ≡ d → local_type_height f ≤ n
+      → Unended (Within n) f xs rest → Closes rest
       → Or n b (unended (suc b) d xs) (Ok (roll-Stmt f, rest))
   unfolding unended
-  header_by n b true (Stmt-F.Local t) xs rest is w c = declaration_or facts n b t xs rest w c
-  header_by n b true _ xs rest is w c = absurd (cc)
-  header_by n b false f xs rest is w c = simple_or facts n b f xs rest is w c
+  header_by n b true (Stmt-F.Local t) xs rest is fit w c = declaration_or facts n b t xs rest fit w c
+  header_by n b true _ xs rest is fit w c = absurd (cc)
+  header_by n b false f xs rest is fit w c = simple_or facts n b f xs rest is w c
 
   pub header_or : (n b : ℕ) (d : Bool) (s : Stmt) (xs rest : List Lexeme) → is_declaration (out-Stmt s) ≡ d → UnendedWithin n s xs rest → Closes rest
       → Or n b (unended b d xs) (Ok (s, rest))
   unfolding UnendedWithin unended
   header_or zero b d s xs rest is w c = absurd w
   header_or (suc n) zero d s xs rest is w c =
-      none_or n xs (Ok (s, rest)) (omega (arith, unended_length (Within n) (facts.shorter n) (out-Stmt s) xs rest w))
+      none_or n xs (Ok (s, rest)) (omega (arith, unended_length (Within n) (facts.shorter n) (out-Stmt s) xs rest w.0))
   header_or (suc n) (suc b) d s xs rest is w c =
       subst (λ (t : Stmt). Or (suc n) (suc b) (unended (suc b) d xs) (Ok (t, rest))) (roll-out-Stmt s)
-      (raise (header_by n b d (out-Stmt s) xs rest is w c))
+      (raise (header_by n b d (out-Stmt s) xs rest is w.1 w.0 c))
 
   -- ---- lengths
 

@@ -7,18 +7,18 @@ use Rattle.java_tokens.specs.declared.token.TokenKind.TheVariants as k
 use Rattle.java_syntax.specs.declared.expression.Expr.{Expr}
 use Rattle.java_syntax.specs.declared.expression.Expr as expr
 use Rattle.java_syntax.specs.declared.expression.Expr.TheVariants as e
-use Rattle.java_syntax.specs.declared.name.BaseType.TheVariants as base
+use Rattle.token_reading.specs.declared.name.BaseType.TheVariants as base
 use Rattle.java_syntax.specs.declared.operator.AssignOp.TheVariants as assign
 use Rattle.java_syntax.specs.declared.operator.BinaryOp.TheVariants as binary
 use Rattle.java_syntax.specs.declared.operator.Fix.TheVariants as fix
 use Rattle.java_syntax.specs.declared.operator.StepOp.TheVariants as step
 use Rattle.java_syntax.specs.declared.statement.Stmt.{Stmt}
 use Rattle.java_syntax.specs.declared.statement.Stmt.TheVariants as s
-use Rattle.java_syntax.specs.Lexeme.{Lexeme, lexeme, same_operator, same_keyword}
-use Rattle.java_reading.specs.Outcome.{no_tree}
-use Rattle.java_reading.specs.ReadType.{expect, expect_word, ident_at, ident, brackets, base_type, type_of, type_tree}
+use Rattle.token_reading.specs.Lexeme.{Lexeme, lexeme, same_operator, same_keyword}
+use Rattle.token_reading.specs.Outcome.{no_tree}
+use Rattle.token_reading.specs.ReadType.{expect, expect_word, ident_at, ident, brackets, pairs, base_type, type_of, type_tree, none_fits}
 use Rattle.java_reading.specs.ReadExpr.{more_args, args, named, cast, parens, operand, super_call, instance, array, creation, prefix, member, element, conditional, instance_of, operated, climb, precedence, reading}
-use Rattle.java_reading.specs.ReadStmt.{value, arguments, none_fits, local_of, initial, local, declaration, step_before, assignment, step_behind, evaluated, simple, unended, stmts, block, inner_block, condition, ended, otherwise, if_stmt, while_stmt, do_stmt, more_simples, simples, start, for_stmt, return_stmt, throw_stmt, super_stmt, catch_clause, catch, catches, finally, try_stmt, local_stmt, simple_stmt, plain_stmt, stmt, statement}
+use Rattle.java_reading.specs.ReadStmt.{value, arguments, local_of, initial, local, declaration, step_before, assignment, step_behind, evaluated, simple, unended, stmts, block, inner_block, condition, ended, otherwise, if_stmt, while_stmt, do_stmt, more_simples, simples, start, for_stmt, return_stmt, throw_stmt, super_stmt, catch_clause, catch, catches, finally, try_stmt, local_stmt, simple_stmt, plain_stmt, stmt, statement}
 
 -- these tokens, numbered from the number on
 abbrev row : ℕ → List TokenKind → List Lexeme
@@ -118,7 +118,7 @@ loops_and_branches :
     k.Ident name_a ∷ k.Op o.Semicolon ∷ k.Op o.RightBrace ∷ [])
     (s.Block (s.Return 1 None ∷ s.Return 3 (Some (e.Name (ident_at 4 name_a))) ∷ s.Break 6 ∷ s.Continue 8 ∷ s.Throw
     (e.Name (ident_at 11 name_a)) ∷ []))
-unfolding reading precedence prefix climb named args more_args cast parens operand super_call instance array creation member element conditional instance_of operated expect expect_word ident brackets base_type type_tree same_operator same_keyword value arguments none_fits initial local declaration step_before assignment step_behind evaluated simple unended stmts block inner_block condition ended otherwise if_stmt while_stmt do_stmt more_simples simples start for_stmt return_stmt throw_stmt super_stmt catch catches finally try_stmt local_stmt simple_stmt plain_stmt stmt statement expr.out-Expr denote.Hole.Carrier.out
+unfolding reading precedence prefix climb named args more_args cast parens operand super_call instance array creation member element conditional instance_of operated expect expect_word ident brackets pairs base_type type_tree same_operator same_keyword value arguments none_fits initial local declaration step_before assignment step_behind evaluated simple unended stmts block inner_block condition ended otherwise if_stmt while_stmt do_stmt more_simples simples start for_stmt return_stmt throw_stmt super_stmt catch catches finally try_stmt local_stmt simple_stmt plain_stmt stmt statement expr.out-Expr denote.Hole.Carrier.out
 loops_and_branches = (refl, refl, refl, refl, refl, refl, refl, refl, refl, refl, refl, refl)
 
 -- declarations, assignments and calls
@@ -157,5 +157,5 @@ declarations_and_expressions :
     × Reads (k.Word w.Super ∷ k.Op o.Dot ∷ k.Ident name_m ∷ k.Op o.LeftParen ∷ k.Ident name_a ∷ k.Op o.RightParen ∷
     k.Op o.Semicolon ∷ [])
     (s.Eval (e.Super 0 (ident_at 2 name_m) ((e.Name (ident_at 4 name_a)) ∷ [])))
-unfolding reading precedence prefix climb named args more_args cast parens operand super_call instance array creation member element conditional instance_of operated expect expect_word ident brackets base_type type_tree same_operator same_keyword value arguments none_fits initial local declaration step_before assignment step_behind evaluated simple unended stmts block inner_block condition ended otherwise if_stmt while_stmt do_stmt more_simples simples start for_stmt return_stmt throw_stmt super_stmt catch catches finally try_stmt local_stmt simple_stmt plain_stmt stmt statement expr.out-Expr denote.Hole.Carrier.out
+unfolding reading precedence prefix climb named args more_args cast parens operand super_call instance array creation member element conditional instance_of operated expect expect_word ident brackets pairs base_type type_tree same_operator same_keyword value arguments none_fits initial local declaration step_before assignment step_behind evaluated simple unended stmts block inner_block condition ended otherwise if_stmt while_stmt do_stmt more_simples simples start for_stmt return_stmt throw_stmt super_stmt catch catches finally try_stmt local_stmt simple_stmt plain_stmt stmt statement expr.out-Expr denote.Hole.Carrier.out
 declarations_and_expressions = (refl, refl, refl, refl, refl, refl, refl, refl, refl, refl)

@@ -8,24 +8,26 @@ use Rattle.java_tokens.specs.declared.token.Operator.{Operator}
 use Rattle.java_tokens.specs.declared.token.Operator.TheVariants as o
 use Rattle.java_tokens.specs.declared.token.TokenKind.{TokenKind}
 use Rattle.java_tokens.specs.declared.token.TokenKind.TheVariants as k
-use Rattle.java_syntax.specs.declared.name.Ident.{Ident}
+use Rattle.token_reading.specs.declared.name.Ident.{Ident}
 use Rattle.java_syntax.specs.declared.statement.CatchTree.{CatchTree, CatchTree-F}
 use Rattle.java_syntax.specs.declared.statement.Stmt.{Stmt, out-Stmt}
 use Rattle.java_syntax.specs.declared.statement.Stmt.TheOpen.{Stmt-F}
 use Rattle.java_syntax.specs.declared.statement.Stmt.TheVariants.{outs-Empty, outs-Block, outs-Super, outs-If, outs-While, outs-DoWhile, outs-For, outs-Return, outs-Break, outs-Continue, outs-Throw, outs-Try}
 use Rattle.java_syntax.specs.declared.statement.Stmt.TheViews.{out-roll-CatchTree}
-use Rattle.java_syntax.specs.Lexeme.{Lexeme, lexeme, Then, sees, sees_word, same_operator}
-use Rattle.java_syntax.specs.Types.{IsIdent}
+use Rattle.token_reading.specs.Lexeme.{Lexeme, lexeme, Then, sees, sees_word, same_operator}
+use Rattle.token_reading.specs.Types.{IsIdent}
 use Rattle.java_syntax.specs.Exprs.{Within}
-use Rattle.java_syntax.specs.Stmts.{StmtLayer, is_declaration, is_block, handles, MayStand, Unended, UnendedWithin, Simple, MoreSimples, Simples, Start, Stmts, Condition, Ended, Otherwise, IsBlock, Catch, Catches, Finally, StmtNode, StmtWithin}
-use Rattle.java_reading.specs.ReadType.{next, is_local}
+use Rattle.java_syntax.specs.Stmts.{StmtLayer, is_declaration, is_block, handles, MayStand, Unended, local_type_height, UnendedWithin, Simple, MoreSimples, Simples, Start, Stmts, Condition, Ended, Otherwise, IsBlock, Catch, Catches, Finally, StmtNode, StmtWithin}
+use Rattle.token_reading.specs.ReadType.{next}
 use Rattle.java_reading.specs.ReadStmt.{value, arguments, catch_clause, unended, stmts, block, inner_block, condition, ended, otherwise, if_stmt, while_stmt, do_stmt, more_simples, simples, start, for_stmt, return_stmt, throw_stmt, super_stmt, catch, catches, finally, try_stmt, local_stmt, simple_stmt, word_stmt, stmt_by, plain_stmt, stmt, statement}
 use Rattle.java_reading.proofs.ArgsFacts.{ArgsFacts}
 use Rattle.java_reading.proofs.ExprFacts.{ExprFacts}
-use Rattle.java_reading.proofs.SimpleSound.{Takes, MayTake, op_gives, word_gives, ident_gives, value_gives, arguments_gives, declaration_gives, simple_gives, none_gives, unended_gives}
+use Rattle.java_reading.proofs.SimpleSound.{value_gives, arguments_gives, declaration_gives, simple_gives, unended_gives}
 use Rattle.java_reading.proofs.StmtBegins.{unended_other}
-use Rattle.java_reading.proofs.Steps.{gives, gives_none, gives_then, gives_map, gives_if}
-use Rattle.java_reading.proofs.Tokens.{then_length, from_sees, from_sees_word}
+use Rattle.token_reading.proofs.Steps.{gives, gives_none, gives_then, gives_map, gives_if}
+use Rattle.token_reading.proofs.Lexemes.{then_length, from_sees, from_sees_word}
+use Rattle.java_reading.specs.Lookahead.{is_local}
+use Rattle.token_reading.proofs.Given.{Takes, MayTake, op_gives, word_gives, ident_gives, none_gives}
 
 -- what is known of the statements that are lower than the whole
 abbrev Gets : ℕ → Type 0
@@ -217,7 +219,9 @@ module _ (facts : ExprFacts) (args_facts : ArgsFacts) (n : ℕ) where
 
     -- one level more
     abbrev pub Whole : Bool → Stmt → List Lexeme → List Lexeme → Type 0
-    Whole in_block t xs ys = MayStand in_block (out-Stmt t) × StmtNode (Within n) (UnendedWithin n) (StmtWithin n) (out-Stmt t) xs ys
+    Whole in_block t xs ys =
+        MayStand in_block (out-Stmt t) × StmtNode (Within n) (UnendedWithin n) (StmtWithin n) (out-Stmt t) xs ys
+        × (local_type_height (out-Stmt t) ≤ n)
 
     ended_node : (f : StmtLayer) (xs ys rest : List Lexeme) → Unended (Within n) f xs ys → Then (k.Op o.Semicolon) ys rest
         → StmtNode (Within n) (UnendedWithin n) (StmtWithin n) f xs rest
@@ -231,11 +235,11 @@ module _ (facts : ExprFacts) (args_facts : ArgsFacts) (n : ℕ) where
     may_stand d in_block (Stmt-F.Local t) is may = may (sym is)
     may_stand d in_block _ is may = tt
 
-    local_gives : (xs : List Lexeme) → Takes (Whole true) xs (suc n ≤ length xs) (local_stmt (value n) (arguments n) (unended n) (statement n) xs)
+    local_gives : (xs : List Lexeme) → Takes (Whole true) xs (suc n ≤ length xs) (local_stmt n (value n) (arguments n) (unended n) (statement n) xs)
     unfolding local_stmt
     local_gives xs =
         gives_then (declaration_gives facts n xs) (λ h. omega arith) (λ t ys w. gives_then (op_gives o.Semicolon ys) (λ h. absurd h) (λ _ zs u.
-        gives t zs ((may_stand true true (out-Stmt t) w.0.0 (λ h. h), ended_node (out-Stmt t) xs ys zs w.0.1 u.0), omega (arith, w.1, u.1))))
+        gives t zs ((may_stand true true (out-Stmt t) w.0.0 (λ h. h), ended_node (out-Stmt t) xs ys zs w.0.1 u.0, w.0.2), omega (arith, w.1, u.1))))
 
     simple_stmt_gives : (in_block : Bool) (xs : List Lexeme)
         → Takes (Whole in_block) xs (suc n ≤ length xs) (simple_stmt (value n) (arguments n) (unended n) (statement n) xs)
@@ -243,7 +247,7 @@ module _ (facts : ExprFacts) (args_facts : ArgsFacts) (n : ℕ) where
     simple_stmt_gives in_block xs =
         gives_then (simple_gives facts n xs) (λ h. omega arith) (λ t ys w. gives_then (op_gives o.Semicolon ys) (λ h. absurd h) (λ _ zs u.
         gives t zs (
-          (may_stand false in_block (out-Stmt t) w.0.0 (λ h. absurd (cc)), ended_node (out-Stmt t) xs ys zs w.0.1 u.0),
+          (may_stand false in_block (out-Stmt t) w.0.0 (λ h. absurd (cc)), ended_node (out-Stmt t) xs ys zs w.0.1 u.0, w.0.2),
           omega (arith, w.1, u.1),
         )))
 
@@ -254,7 +258,7 @@ module _ (facts : ExprFacts) (args_facts : ArgsFacts) (n : ℕ) where
         gives_then (condition_gives ys) (λ h. omega (arith, then_length _ xs ys t)) (λ c zs w.
         gives_then (ih false zs) (λ h. omega (arith, then_length _ xs ys t, w.1)) (λ s us v.
         gives_then (otherwise_gives us) (λ h. omega (arith, then_length _ xs ys t, w.1, v.1)) (λ other vs u.
-        gives _ vs (rw (outs-If c s other) (tt, (ys, t, zs, w.0, us, v.0, u.0)), omega (arith, then_length _ xs ys t, w.1, v.1, u.1)))))
+        gives _ vs (rw (outs-If c s other) (tt, (ys, t, zs, w.0, us, v.0, u.0), omega arith), omega (arith, then_length _ xs ys t, w.1, v.1, u.1)))))
 
     while_gives : (in_block : Bool) (xs ys : List Lexeme) → Then (k.Word word.While) xs ys → Takes (Whole in_block) xs (suc n ≤ length xs)
         (while_stmt (value n) (arguments n) (unended n) (statement n) ys)
@@ -262,7 +266,7 @@ module _ (facts : ExprFacts) (args_facts : ArgsFacts) (n : ℕ) where
     while_gives in_block xs ys t =
         gives_then (condition_gives ys) (λ h. omega (arith, then_length _ xs ys t)) (λ c zs w.
         gives_then (ih false zs) (λ h. omega (arith, then_length _ xs ys t, w.1)) (λ s us v.
-        gives _ us (rw (outs-While c s) (tt, (ys, t, zs, w.0, v.0)), omega (arith, then_length _ xs ys t, w.1, v.1))))
+        gives _ us (rw (outs-While c s) (tt, (ys, t, zs, w.0, v.0), omega arith), omega (arith, then_length _ xs ys t, w.1, v.1))))
 
     do_gives : (in_block : Bool) (xs ys : List Lexeme) → Then (k.Word word.Do) xs ys → Takes (Whole in_block) xs (suc n ≤ length xs)
         (do_stmt (value n) (arguments n) (unended n) (statement n) ys)
@@ -272,7 +276,7 @@ module _ (facts : ExprFacts) (args_facts : ArgsFacts) (n : ℕ) where
         gives_then (word_gives word.While zs) (λ h. absurd h) (λ _ us v.
         gives_then (condition_gives us) (λ h. omega (arith, then_length _ xs ys t, w.1, v.1)) (λ c vs u.
         gives_then (op_gives o.Semicolon vs) (λ h. absurd h) (λ _ ws x.
-        gives _ ws (rw (outs-DoWhile s c) (tt, (ys, t, zs, w.0, us, v.0, vs, u.0, x.0)), omega (arith, then_length _ xs ys t, w.1, v.1, u.1, x.1))))))
+        gives _ ws (rw (outs-DoWhile s c) (tt, (ys, t, zs, w.0, us, v.0, vs, u.0, x.0), omega arith), omega (arith, then_length _ xs ys t, w.1, v.1, u.1, x.1))))))
 
     for_gives : (in_block : Bool) (xs ys : List Lexeme) → Then (k.Word word.For) xs ys → Takes (Whole in_block) xs (suc n ≤ length xs)
         (for_stmt (value n) (arguments n) (unended n) (statement n) ys)
@@ -284,7 +288,7 @@ module _ (facts : ExprFacts) (args_facts : ArgsFacts) (n : ℕ) where
         gives_then (simples_gives o.RightParen vs) (λ h. omega (arith, then_length _ xs ys t, p.1, w.1, v.1)) (λ update ws u.
         gives_then (ih false ws) (λ h. omega (arith, then_length _ xs ys t, p.1, w.1, v.1, u.1)) (λ s ts x.
         gives _ ts (
-          rw (outs-For first c update s) (tt, (ys, t, zs, p.0, us, w.0, vs, v.0, ws, u.0, x.0)),
+          rw (outs-For first c update s) (tt, (ys, t, zs, p.0, us, w.0, vs, v.0, ws, u.0, x.0), omega arith),
           omega (arith, then_length _ xs ys t, p.1, w.1, v.1, u.1, x.1),
         ))))))
 
@@ -294,7 +298,7 @@ module _ (facts : ExprFacts) (args_facts : ArgsFacts) (n : ℕ) where
     unfolding return_stmt
     return_gives in_block at xs ys is =
         gives_then (ended_gives ys) (λ h. omega (arith, ap length is)) (λ e zs w.
-        gives _ zs (rw (outs-Return at e) (tt, (ys, is, w.0)), omega (arith, ap length is, w.1)))
+        gives _ zs (rw (outs-Return at e) (tt, (ys, is, w.0), omega arith), omega (arith, ap length is, w.1)))
 
     throw_gives : (in_block : Bool) (xs ys : List Lexeme) → Then (k.Word word.Throw) xs ys → Takes (Whole in_block) xs (suc n ≤ length xs)
         (throw_stmt (value n) (arguments n) (unended n) (statement n) ys)
@@ -302,7 +306,7 @@ module _ (facts : ExprFacts) (args_facts : ArgsFacts) (n : ℕ) where
     throw_gives in_block xs ys t =
         gives_then (value_gives facts n ys) (λ h. omega (arith, then_length _ xs ys t)) (λ e zs w.
         gives_then (op_gives o.Semicolon zs) (λ h. absurd h) (λ _ us v.
-        gives _ us (rw (outs-Throw e) (tt, (ys, t, zs, w.0, v.0)), omega (arith, then_length _ xs ys t, w.1, v.1))))
+        gives _ us (rw (outs-Throw e) (tt, (ys, t, zs, w.0, v.0), omega arith), omega (arith, then_length _ xs ys t, w.1, v.1))))
 
     super_gives : (in_block : Bool) (at : ℕ) (xs ys : List Lexeme) → xs ≡ lexeme at (k.Word word.Super) ∷ ys
         → Takes (Whole in_block) xs (suc n ≤ length xs)
@@ -312,7 +316,7 @@ module _ (facts : ExprFacts) (args_facts : ArgsFacts) (n : ℕ) where
         gives_then (op_gives o.LeftParen ys) (λ h. absurd h) (λ _ zs t.
         gives_then (arguments_gives facts n args_facts zs) (λ h. omega (arith, ap length is, t.1)) (λ given us w.
         gives_then (op_gives o.Semicolon us) (λ h. absurd h) (λ _ vs v.
-        gives _ vs (rw (outs-Super at given) (tt, (ys, is, zs, t.0, us, w.0, v.0)), omega (arith, ap length is, t.1, w.1, v.1)))))
+        gives _ vs (rw (outs-Super at given) (tt, (ys, is, zs, t.0, us, w.0, v.0), omega arith), omega (arith, ap length is, t.1, w.1, v.1)))))
 
     try_gives : (in_block : Bool) (xs ys : List Lexeme) → Then (k.Word word.Try) xs ys → Takes (Whole in_block) xs (suc n ≤ length xs)
         (try_stmt (value n) (arguments n) (unended n) (statement n) ys)
@@ -322,7 +326,7 @@ module _ (facts : ExprFacts) (args_facts : ArgsFacts) (n : ℕ) where
         gives_then (all_catches_gives zs) (λ h. omega (arith, then_length _ xs ys t, w.1)) (λ clauses us v.
         gives_then (finally_gives us) (λ h. omega (arith, then_length _ xs ys t, w.1, v.1)) (λ last vs u. gives_if (handles clauses last)
         (λ h. gives _ vs (
-          rw (outs-Try body clauses last) (tt, (ys, t, zs, w.0, us, v.0, u.0, h)),
+          rw (outs-Try body clauses last) (tt, (ys, t, zs, w.0, us, v.0, u.0, h), omega arith),
           omega (arith, then_length _ xs ys t, w.1, v.1, u.1),
         ))
         (λ h. gives_none))))
@@ -332,7 +336,7 @@ module _ (facts : ExprFacts) (args_facts : ArgsFacts) (n : ℕ) where
     unfolding block
     block_gives in_block xs ys t =
         gives_then (body_gives ys) (λ h. omega (arith, then_length _ xs ys t)) (λ all zs w.
-        gives _ zs (rw (outs-Block all) (tt, (ys, t, w.0)), omega (arith, then_length _ xs ys t, w.1)))
+        gives _ zs (rw (outs-Block all) (tt, (ys, t, w.0), omega arith), omega (arith, then_length _ xs ys t, w.1)))
 
     -- ---- any of them
 
@@ -346,10 +350,10 @@ module _ (facts : ExprFacts) (args_facts : ArgsFacts) (n : ℕ) where
     word_gives_stmt in_block x xs word.Return is = return_gives in_block x.at (x ∷ xs) xs (ap (λ kd. lexeme x.at kd ∷ xs) is)
     word_gives_stmt in_block x xs word.Break is =
         gives_then (op_gives o.Semicolon xs) (λ h. absurd h) (λ _ ys t.
-        gives _ ys (rw (outs-Break x.at) (tt, (xs, ap (λ kd. lexeme x.at kd ∷ xs) is, t.0)), omega (arith, t.1)))
+        gives _ ys (rw (outs-Break x.at) (tt, (xs, ap (λ kd. lexeme x.at kd ∷ xs) is, t.0), omega arith), omega (arith, t.1)))
     word_gives_stmt in_block x xs word.Continue is =
         gives_then (op_gives o.Semicolon xs) (λ h. absurd h) (λ _ ys t.
-        gives _ ys (rw (outs-Continue x.at) (tt, (xs, ap (λ kd. lexeme x.at kd ∷ xs) is, t.0)), omega (arith, t.1)))
+        gives _ ys (rw (outs-Continue x.at) (tt, (xs, ap (λ kd. lexeme x.at kd ∷ xs) is, t.0), omega arith), omega (arith, t.1)))
     word_gives_stmt in_block x xs word.Throw is = throw_gives in_block (x ∷ xs) xs (x.at, ap (λ kd. lexeme x.at kd ∷ xs) is)
     word_gives_stmt in_block x xs word.Try is = try_gives in_block (x ∷ xs) xs (x.at, ap (λ kd. lexeme x.at kd ∷ xs) is)
     word_gives_stmt in_block x xs word.Super is =
@@ -363,7 +367,7 @@ module _ (facts : ExprFacts) (args_facts : ArgsFacts) (n : ℕ) where
     kind_gives in_block x xs (k.Word v) is = word_gives_stmt in_block x xs v is
     kind_gives in_block x xs (k.Op o.LeftBrace) is = block_gives in_block (x ∷ xs) xs (x.at, ap (λ kd. lexeme x.at kd ∷ xs) is)
     kind_gives in_block x xs (k.Op o.Semicolon) is =
-        gives _ xs (rw outs-Empty (tt, (x.at, ap (λ kd. lexeme x.at kd ∷ xs) is)), omega arith)
+        gives _ xs (rw outs-Empty (tt, (x.at, ap (λ kd. lexeme x.at kd ∷ xs) is), omega arith), omega arith)
     kind_gives in_block x xs _ is = simple_stmt_gives in_block (x ∷ xs)
 
     plain_gives : (in_block : Bool) (xs : List Lexeme)
@@ -373,7 +377,7 @@ module _ (facts : ExprFacts) (args_facts : ArgsFacts) (n : ℕ) where
     plain_gives in_block (x ∷ xs) = kind_gives in_block x xs x.kind refl
 
     stmt_gives : (in_block : Bool) (xs : List Lexeme)
-        → Takes (Whole in_block) xs (suc n ≤ length xs) (stmt (value n) (arguments n) (unended n) (statement n) in_block xs)
+        → Takes (Whole in_block) xs (suc n ≤ length xs) (stmt n (value n) (arguments n) (unended n) (statement n) in_block xs)
     unfolding stmt
     stmt_gives true xs = gives_if (is_local xs) (λ h. local_gives xs) (λ h. plain_gives true xs)
     stmt_gives false xs = gives_if (is_local xs) (λ h. gives_none) (λ h. plain_gives false xs)

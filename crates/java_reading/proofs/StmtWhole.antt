@@ -2,19 +2,19 @@
 use Rattle.std.proofs.Common.{◌≡◌, ℕ, zero, suc, ◌≤◌, max, List, Bool, Ok, Err, refl, sym, ◌∙◌, ap, arith}
 use Rattle.java_syntax.specs.declared.statement.Stmt.{Stmt, out-Stmt}
 use Rattle.java_syntax.specs.declared.statement.Stmt.TheOpen.{Stmt-F}
-use Rattle.java_syntax.specs.Lexeme.{Lexeme}
+use Rattle.token_reading.specs.Lexeme.{Lexeme}
 use Rattle.java_syntax.specs.Exprs.{Within}
 use Rattle.java_syntax.specs.Stmts.{StmtLayer, is_declaration, UnendedWithin, StmtNode, StmtWithin}
-use Rattle.java_reading.specs.Outcome.{Outcome}
-use Rattle.java_reading.specs.ReadType.{is_local}
+use Rattle.token_reading.specs.Outcome.{Outcome}
 use Rattle.java_reading.specs.ReadStmt.{statement}
 use Rattle.java_reading.specs.StmtLaws.{OneStatement, SeesDeclarations}
 use Rattle.java_reading.proofs.ArgsFacts.{args_facts}
 use Rattle.java_reading.proofs.SimpleFound.{semicolon_closes}
-use Rattle.java_reading.proofs.Steps.{Or, found, higher}
+use Rattle.token_reading.proofs.Steps.{Or, found, higher}
 use Rattle.java_reading.proofs.StmtBegins.{type_local, simple_local}
 use Rattle.java_reading.proofs.StmtFound.{stmt_found}
 use Rattle.java_reading.proofs.Whole.{expr_facts}
+use Rattle.java_reading.specs.Lookahead.{is_local}
 
 -- a statement of a height that the budget allows
 allowed : {good : Outcome Stmt} (n b : ℕ) (in_block : Bool) (xs : List Lexeme) → n ≤ b → Or n b (statement b in_block xs) good

@@ -1,10 +1,10 @@
 -- What reading says of expressions of any height.
 use Rattle.std.proofs.Common.{◌≡◌, ℕ, ◌≤◌, ◌<◌, max, List, [], Ok, Err, sym, ◌∙◌, ap, subst, arith}
 use Rattle.java_syntax.specs.declared.expression.Expr.{Expr, out-Expr}
-use Rattle.java_syntax.specs.Lexeme.{Lexeme}
+use Rattle.token_reading.specs.Lexeme.{Lexeme}
 use Rattle.java_syntax.specs.Exprs.{Within}
 use Rattle.java_syntax.specs.Height.{expr_height}
-use Rattle.java_reading.specs.Outcome.{no_tree, too_high, Outcome}
+use Rattle.token_reading.specs.Outcome.{no_tree, too_high, Outcome}
 use Rattle.java_reading.specs.ExprLaws.{OneExpression, FindsExpressions, GivesExpressions, RefusesExpressions, RefusesHighOnes, HeightIsLeast}
 use Rattle.java_reading.specs.ReadExpr.{Tall, reading, follows}
 use Rattle.java_reading.proofs.Claims.{Done, done, over, Sound}

@@ -1,4 +1,4 @@
--- What makes a left operand of what is read, and the token that stands behind one.
+-- What makes a left operand of what is read, and the token that stands after one.
 use Rattle.std.proofs.Common.{◌≡◌, ℕ, suc, ◌+◌, ◌≤◌, ◌<◌, List, [], ◌∷◌, length, Ok, refl, sym, ◌∙◌, ap, subst, arith}
 use Rattle.java_tokens.specs.declared.token.Keyword.{Keyword}
 use Rattle.java_tokens.specs.declared.token.Keyword.TheVariants as w
@@ -8,20 +8,21 @@ use Rattle.java_tokens.specs.declared.token.TokenKind.{TokenKind}
 use Rattle.java_tokens.specs.declared.token.TokenKind.TheVariants as k
 use Rattle.java_syntax.specs.declared.expression.Expr.{Expr, out-Expr, roll-Expr}
 use Rattle.java_syntax.specs.declared.expression.Expr.TheViews.{out-roll-Expr}
-use Rattle.java_syntax.specs.Lexeme.{Lexeme, lexeme, Then}
-use Rattle.java_syntax.specs.Exprs.{Layer, binary_sign, level, Node, Within}
+use Rattle.token_reading.specs.Lexeme.{Lexeme, lexeme, Then}
+use Rattle.java_syntax.specs.Exprs.{Layer, binary_sign, level, Node, inner_type_height, Within}
 use Rattle.java_reading.specs.declared.infix.Infix.{Infix}
 use Rattle.java_reading.specs.declared.infix.Infix.TheVariants as i
-use Rattle.java_reading.specs.ReadType.{next}
+use Rattle.token_reading.specs.ReadType.{next}
 use Rattle.java_reading.specs.ReadExpr.{infix_operator, infix_keyword, infix_of, first_infix, follows}
 use Rattle.java_reading.proofs.Levels.{after}
 use Rattle.java_reading.proofs.Growing.{made}
 use Rattle.java_reading.proofs.Claims.{Written, Left}
 
-pub wrote : (b n h : ℕ) (f : Layer) (e : Expr) (l : ℕ) (xs rest : List Lexeme) → roll-Expr f ≡ e → n < h → h ≤ b
+pub wrote : (b n h : ℕ) (f : Layer) (e : Expr) (l : ℕ) (xs rest : List Lexeme) → roll-Expr f ≡ e → inner_type_height f ≤ n
+    → n < h → h ≤ b
     → h + length rest ≤ length xs → l ≤ level f → follows rest ≤ after f → Node (Within n) f xs rest → Written b l xs (e, h) rest
-wrote b n h f e l xs rest is up low taken lv stop w = record {
-  tree = made n h f e l xs rest up is lv w;
+wrote b n h f e l xs rest is fit up low taken lv stop w = record {
+  tree = made n h f e l xs rest up is lv fit w;
   low = low;
   taken = taken;
   stop = let back : f ≡ out-Expr e = sym (out-roll-Expr f) ∙ ap out-Expr is in
@@ -29,12 +30,13 @@ wrote b n h f e l xs rest is up low taken lv stop w = record {
 }
 
 -- a leaf, which is one token
-pub leaf : (b : ℕ) (f : Layer) (e : Expr) (x : Lexeme) (l : ℕ) (xs rest : List Lexeme) → roll-Expr f ≡ e → xs ≡ x ∷ rest → l ≤ level f
+pub leaf : (b : ℕ) (f : Layer) (e : Expr) (x : Lexeme) (l : ℕ) (xs rest : List Lexeme) → roll-Expr f ≡ e → inner_type_height f ≤ 0
+    → xs ≡ x ∷ rest → l ≤ level f
     → follows rest ≤ after f → Node (Within 0) f xs rest → Left (suc b) l xs (Ok ((e, 1), rest))
-leaf b f e x l xs rest is one lv stop w =
-    wrote (suc b) 0 1 f e l xs rest is (omega arith) (omega arith) (omega (arith, ap length one)) lv stop w
+leaf b f e x l xs rest is fit one lv stop w =
+    wrote (suc b) 0 1 f e l xs rest is fit (omega arith) (omega arith) (omega (arith, ap length one)) lv stop w
 
--- the token that stands behind an operand
+-- the token that stands after an operand
 abbrev pub Leads : Infix → List Lexeme → Type 0
 Leads (i.Binary op) xs = Then (k.Op (binary_sign op)) xs (next xs)
 Leads i.InstanceOf xs = Then (k.Word w.Instanceof) xs (next xs)

@@ -2,16 +2,16 @@
 use Rattle.std.specs.Prelude.{◌≡◌, ℕ, ◌<◌, ◌≤◌, List, [], ◌∷◌, length, Bool, true, false, Ok, Err}
 use Rattle.java_tokens.specs.declared.token.Operator.TheVariants as o
 use Rattle.java_tokens.specs.declared.token.TokenKind.TheVariants as k
-use Rattle.java_syntax.specs.declared.name.TypeTree.{TypeTree}
+use Rattle.token_reading.specs.declared.name.TypeTree.{TypeTree}
 use Rattle.java_syntax.specs.declared.expression.Expr.{Expr}
-use Rattle.java_syntax.specs.Lexeme.{Lexeme, Then}
-use Rattle.java_syntax.specs.Types.{IsType}
+use Rattle.token_reading.specs.Lexeme.{Lexeme, Then}
+use Rattle.token_reading.specs.Types.{IsType}
 use Rattle.java_syntax.specs.Exprs.{Within, begins_plain, casts}
 use Rattle.java_syntax.specs.Height.{expr_height}
-use Rattle.java_reading.specs.Outcome.{no_tree, too_high}
+use Rattle.token_reading.specs.Outcome.{no_tree, too_high}
 use Rattle.java_reading.specs.ReadExpr.{follows, reading}
 
--- the expression, of some height, is written at the front, and no token that binds to it stands behind it
+-- the expression, of some height, is written at the front, and no token that binds to it stands after it
 abbrev pub Stands : Expr → List Lexeme → List Lexeme → Type 0
 Stands e xs rest = (n : ℕ) × Within n e 1 xs rest × (follows rest ≡ 0)
 
@@ -53,6 +53,6 @@ abbrev pub BeginsCast : List Lexeme → Type 0
 BeginsCast xs =
     (t : TypeTree) × (ys : List Lexeme) × IsType t xs ys × (zs : List Lexeme) × Then (k.Op o.RightParen) ys zs × (sees_plain zs ≡ true)
 
--- The look-ahead behind a `(` sees just this.
+-- The look-ahead after a `(` sees just this.
 abbrev pub SeesCasts : Type 0
 SeesCasts = (xs : List Lexeme) → (casts xs ≡ true → BeginsCast xs) × (BeginsCast xs → casts xs ≡ true)

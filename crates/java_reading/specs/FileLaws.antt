@@ -2,11 +2,12 @@
 use Rattle.std.specs.Prelude.{◌≡◌, ℕ, ◌≤◌, List, [], length, Ok, Err}
 use Rattle.java_tokens.specs.declared.token.Token.{Token}
 use Rattle.java_syntax.specs.declared.class.FileTree.{FileTree}
-use Rattle.java_syntax.specs.Lexeme.{Lexeme, numbered}
-use Rattle.java_syntax.specs.Spells.{places_of, SpellsWithin, Spells}
+use Rattle.token_reading.specs.Lexeme.{Lexeme, numbered}
+use Rattle.java_syntax.specs.Spells.{SpellsWithin, Spells}
 use Rattle.java_syntax.specs.Height.{file_height}
-use Rattle.java_reading.specs.Outcome.{no_tree, too_high}
+use Rattle.token_reading.specs.Outcome.{no_tree, too_high}
 use Rattle.java_reading.specs.ReadClass.{file}
+use Rattle.token_reading.specs.Places.{places_of}
 
 -- no tokens are two files
 abbrev pub OneFile : Type 0

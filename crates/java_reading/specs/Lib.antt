@@ -1,5 +1,4 @@
-pub mod Outcome
-pub mod ReadType
+pub mod Lookahead
 pub mod ReadExpr
 pub mod ReadStmt
 pub mod ReadClass

@@ -14,15 +14,15 @@ use Rattle.java_syntax.specs.declared.class.MethodTree.{MethodTree}
 use Rattle.java_syntax.specs.declared.class.Modifier.{Modifier}
 use Rattle.java_syntax.specs.declared.class.Modifier.TheVariants as modifier
 use Rattle.java_syntax.specs.declared.class.Mods.{Mods}
-use Rattle.java_syntax.specs.declared.class.ParamTree.{ParamTree}
+use Rattle.token_reading.specs.declared.name.ParamTree.{ParamTree}
 use Rattle.java_syntax.specs.declared.expression.Expr.{Expr}
-use Rattle.java_syntax.specs.declared.name.Ident.{Ident}
-use Rattle.java_syntax.specs.declared.name.TypeTree.{TypeTree}
+use Rattle.token_reading.specs.declared.name.Ident.{Ident}
+use Rattle.token_reading.specs.declared.name.TypeTree.{TypeTree}
 use Rattle.java_syntax.specs.declared.statement.Stmt.{Stmt}
-use Rattle.java_syntax.specs.Lexeme.{Lexeme, sees, sees_word}
-use Rattle.java_reading.specs.Outcome.{no_tree, Parser, ◌>>=◌}
-use Rattle.java_reading.specs.ReadType.{next, expect, expect_word, sees_name, ident, type_tree}
-use Rattle.java_reading.specs.ReadStmt.{value, none_fits, initial, body}
+use Rattle.token_reading.specs.Lexeme.{Lexeme, sees, sees_word}
+use Rattle.token_reading.specs.Outcome.{no_tree, Parser, ◌>>=◌}
+use Rattle.token_reading.specs.ReadType.{next, expect, expect_word, none_fits, sees_name, ident, type_tree, params}
+use Rattle.java_reading.specs.ReadStmt.{value, initial, body}
 
 -- ---- modifiers
 
@@ -47,32 +47,14 @@ abbrev pub on : {A B : Type 0} → Option A → (A → B) → B → B
 on (Some a) some none = some a
 on None some none = none
 
--- all modifiers that stand there, behind those that are found; the number bounds the turns
+-- all modifiers that stand there, after those that are found; the number bounds the turns
 unfoldable pub modifiers : ℕ → List Modifier → Parser (List Modifier)
 modifiers zero found xs = on (modifier_at xs) (λ m. Err no_tree) (Ok (found, xs))
 modifiers (suc n) found xs = on (modifier_at xs) (λ m. modifiers n (found ++ m ∷ []) (next xs)) (Ok (found, xs))
 
--- ---- parameters and exceptions
+-- ---- exceptions
 
-abbrev pub param_of : TypeTree → Ident → ParamTree
-param_of t x = record { ty = t; name = x }
-
-unfoldable pub param : Parser ParamTree
-param xs = type_tree xs >>= (λ t ys. ident ys >>= (λ x zs. Ok (param_of t x, zs)))
-
--- further parameters and the closing parenthesis, behind those that are found
-unfoldable pub more_params : ℕ → List ParamTree → Parser (List ParamTree)
-more_params zero found xs = Err no_tree
-more_params (suc n) found xs =
-    param xs >>= (λ t ys.
-    if sees o.Comma ys then more_params n (found ++ t ∷ []) (next ys)
-    else (expect o.RightParen ys >>= (λ _ zs. Ok (found ++ t ∷ [], zs))))
-
--- the parameters in their parentheses
-unfoldable pub params : Parser (List ParamTree)
-params xs = expect o.LeftParen xs >>= (λ _ ys. if sees o.RightParen ys then Ok ([], next ys) else more_params (length ys) [] ys)
-
--- names with commas between them, behind those that are found
+-- names with commas between them, after those that are found
 unfoldable pub names : ℕ → List Ident → Parser (List Ident)
 names zero found xs = Err no_tree
 names (suc n) found xs =
@@ -82,7 +64,8 @@ names (suc n) found xs =
 unfoldable pub throws : Parser (List Ident)
 throws xs = if sees_word w.Throws xs then names (length xs) [] (next xs) else Ok ([], xs)
 
--- ---- members. `value` reads an expression and `body` a body that are lower than the whole.
+-- ---- members. Their types have the height n at most; `value` reads an expression and `body` a body that are lower than
+-- the whole.
 
 abbrev pub mods_of : List Modifier → Mods
 mods_of words = record { words = words }
@@ -101,35 +84,35 @@ field_of mods t name value = record { mods = mods; ty = t; name = name; value = 
 abbrev pub is_maker : List Lexeme → Bool
 is_maker xs = sees_name xs && sees o.LeftParen (next xs)
 
-module _ (value : Parser Expr) (body : Parser (List Stmt)) where
-  -- a constructor behind its name
+module _ (n : ℕ) (value : Parser Expr) (body : Parser (List Stmt)) where
+  -- a constructor after its name
   unfoldable pub maker : Mods → Ident → Parser MakerTree
   maker mods name xs =
-      params xs >>= (λ ps ys. throws ys >>= (λ ts zs. expect o.LeftBrace zs >>= (λ _ us. body us >>= (λ all vs.
+      params n xs >>= (λ ps ys. throws ys >>= (λ ts zs. expect o.LeftBrace zs >>= (λ _ us. body us >>= (λ all vs.
       Ok (maker_of mods name ps ts all, vs)))))
 
-  -- a method behind its name, where the same stands
+  -- a method after its name, where the same stands
   unfoldable pub method : Mods → Option TypeTree → Ident → Parser Member
   method mods answer name xs = maker mods name xs >>= (λ t ys. Ok (kinds.Method (method_of answer t), ys))
 
-  -- a field behind its name
+  -- a field after its name
   unfoldable pub field : Mods → TypeTree → Ident → Parser Member
   field mods t name xs = initial value xs >>= (λ e ys. expect o.Semicolon ys >>= (λ _ zs. Ok (kinds.Field (field_of mods t name e), zs)))
 
-  -- behind the modifiers and `void`
+  -- after the modifiers and `void`
   unfoldable pub void_method : Mods → Parser Member
   void_method mods xs = ident xs >>= (λ x ys. method mods None x ys)
 
-  -- behind the modifiers of a constructor
+  -- after the modifiers of a constructor
   unfoldable pub constructor : Mods → Parser Member
   constructor mods xs = ident xs >>= (λ x ys. maker mods x ys >>= (λ t zs. Ok (kinds.Maker t, zs)))
 
-  -- behind the modifiers of another method or of a field
+  -- after the modifiers of another method or of a field
   unfoldable pub typed : Mods → Parser Member
   typed mods xs =
-      type_tree xs >>= (λ t ys. ident ys >>= (λ x zs. if sees o.LeftParen zs then method mods (Some t) x zs else field mods t x zs))
+      type_tree n xs >>= (λ t ys. ident ys >>= (λ x zs. if sees o.LeftParen zs then method mods (Some t) x zs else field mods t x zs))
 
-  -- behind the modifiers
+  -- after the modifiers
   unfoldable pub declared : Mods → Parser Member
   declared mods xs =
       if sees_word w.Void xs then void_method mods (next xs) else (if is_maker xs then constructor mods xs else typed mods xs)
@@ -142,7 +125,7 @@ module _ (value : Parser Expr) (body : Parser (List Stmt)) where
 -- a member of at most this height
 unfoldable pub member : ℕ → Parser Member
 member zero xs = none_fits xs
-member (suc n) xs = member_node (value n) (body n) xs
+member (suc n) xs = member_node n (value n) (body n) xs
 
 -- ---- classes. `part` reads a member that is lower than the whole.
 
@@ -157,7 +140,7 @@ abbrev pub class_of : Bool → Ident → Option Ident → List Member → ClassT
 class_of is_public name parent members = record { is_public = is_public; name = name; parent = parent; members = members }
 
 module _ (part : Parser Member) where
-  -- members and the closing brace, behind those that are found
+  -- members and the closing brace, after those that are found
   unfoldable pub members : ℕ → List Member → Parser (List Member)
   members zero found xs = Err no_tree
   members (suc n) found xs =
@@ -184,13 +167,13 @@ abbrev pub sees_end : List Lexeme → Bool
 sees_end [] = false
 sees_end (x ∷ xs) = is_end x.kind
 
--- classes of at most this height and the end, behind those that are found
+-- classes of at most this height and the end, after those that are found
 unfoldable pub classes : ℕ → ℕ → List ClassTree → Parser (List ClassTree)
 classes n zero found xs = Err no_tree
 classes n (suc fuel) found xs =
     if sees_end xs then Ok (found, next xs) else (class n xs >>= (λ t ys. classes n fuel (found ++ t ∷ []) ys))
 
--- nothing stands behind the end
+-- nothing stands after the end
 abbrev pub whole : List ClassTree → Parser (List ClassTree)
 whole all [] = Ok (all, [])
 whole all (x ∷ xs) = Err no_tree

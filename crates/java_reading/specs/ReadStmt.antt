@@ -8,8 +8,8 @@ use Rattle.java_tokens.specs.declared.token.TokenKind.{TokenKind}
 use Rattle.java_tokens.specs.declared.token.TokenKind.TheVariants as k
 use Rattle.java_syntax.specs.declared.expression.Expr.{Expr, out-Expr}
 use Rattle.java_syntax.specs.declared.expression.Expr.TheOpen.{Expr-F}
-use Rattle.java_syntax.specs.declared.name.Ident.{Ident}
-use Rattle.java_syntax.specs.declared.name.TypeTree.{TypeTree}
+use Rattle.token_reading.specs.declared.name.Ident.{Ident}
+use Rattle.token_reading.specs.declared.name.TypeTree.{TypeTree}
 use Rattle.java_syntax.specs.declared.operator.AssignOp.{AssignOp}
 use Rattle.java_syntax.specs.declared.operator.AssignOp.TheVariants as assign
 use Rattle.java_syntax.specs.declared.operator.Fix.TheVariants as fix
@@ -19,12 +19,13 @@ use Rattle.java_syntax.specs.declared.statement.CatchTree.{CatchTree, roll-Catch
 use Rattle.java_syntax.specs.declared.statement.LocalTree.{LocalTree}
 use Rattle.java_syntax.specs.declared.statement.Stmt.{Stmt}
 use Rattle.java_syntax.specs.declared.statement.Stmt.TheVariants as s
-use Rattle.java_syntax.specs.Lexeme.{Lexeme, sees, sees_word}
+use Rattle.token_reading.specs.Lexeme.{Lexeme, sees, sees_word}
 use Rattle.java_syntax.specs.Exprs.{Layer}
 use Rattle.java_syntax.specs.Stmts.{handles}
-use Rattle.java_reading.specs.Outcome.{no_tree, too_high, Parser, ◌>>=◌}
-use Rattle.java_reading.specs.ReadType.{next, expect, expect_word, ident, type_tree, is_local}
+use Rattle.token_reading.specs.Outcome.{no_tree, Parser, ◌>>=◌}
+use Rattle.token_reading.specs.ReadType.{next, expect, expect_word, none_fits, ident, type_tree}
 use Rattle.java_reading.specs.ReadExpr.{args, reading}
+use Rattle.java_reading.specs.Lookahead.{is_local}
 
 -- ---- expressions in statements, without their heights
 
@@ -35,11 +36,6 @@ value n xs = reading n 1 xs >>= (λ t ys. Ok (t.0, ys))
 -- arguments of at most this height and the closing parenthesis
 unfoldable pub arguments : ℕ → Parser (List Expr)
 arguments n xs = args (reading n) xs >>= (λ r ys. Ok (r.0, ys))
-
--- no part has height 0
-unfoldable pub none_fits : {A : Type 0} → Parser A
-none_fits [] = Err no_tree
-none_fits (x ∷ xs) = Err too_high
 
 -- what can stand before a sign of assignment, as far as the grammar goes
 abbrev pub is_post : Layer → Bool
@@ -104,22 +100,15 @@ module _ (value : Parser Expr) where
   unfoldable pub initial : Parser (Option Expr)
   initial xs = if sees o.Assign xs then (value (next xs) >>= (λ e ys. Ok (Some e, ys))) else Ok (None, xs)
 
-  unfoldable pub local : Parser LocalTree
-  local xs =
-      type_tree xs >>= (λ t ys. ident ys >>= (λ x zs. initial zs >>= (λ e us. Ok (local_of t x e, us))))
-
-  unfoldable pub declaration : Parser Stmt
-  declaration xs = local xs >>= (λ t ys. Ok (s.Local t, ys))
-
-  -- behind the `++` or `--` before its operand
+  -- after the `++` or `--` before its operand
   unfoldable pub step_before : StepOp → Parser Stmt
   step_before op xs = value xs >>= (λ a ys. if is_post (out-Expr a) then Ok (s.Step op fix.Before a, ys) else Err no_tree)
 
-  -- behind an operand and its sign of assignment
+  -- after an operand and its sign of assignment
   unfoldable pub assignment : Expr → AssignOp → Parser Stmt
   assignment a op xs = if is_post (out-Expr a) then (value xs >>= (λ e ys. Ok (s.Assign a op e, ys))) else Err no_tree
 
-  -- behind an operand and its `++` or `--`
+  -- after an operand and its `++` or `--`
   unfoldable pub step_behind : Expr → StepOp → Parser Stmt
   step_behind a op xs = if is_post (out-Expr a) then Ok (s.Step op fix.Behind a, xs) else Err no_tree
 
@@ -131,7 +120,7 @@ module _ (value : Parser Expr) where
   assigned_by a (Some op) xs = assignment a op (next xs)
   assigned_by a None xs = stepped_by a (step_at xs) xs
 
-  -- behind an expression with which the statement begins
+  -- after an expression with which the statement begins
   unfoldable pub evaluated : Expr → Parser Stmt
   evaluated a xs = assigned_by a (assign_at xs) xs
 
@@ -142,23 +131,31 @@ module _ (value : Parser Expr) where
   unfoldable pub simple : Parser Stmt
   simple xs = simple_by (step_at xs) xs
 
+-- a declaration whose type has at most this height
+unfoldable pub local : ℕ → Parser Expr → Parser LocalTree
+local n value xs =
+    type_tree n xs >>= (λ t ys. ident ys >>= (λ x zs. initial value zs >>= (λ e us. Ok (local_of t x e, us))))
+
+unfoldable pub declaration : ℕ → Parser Expr → Parser Stmt
+declaration n value xs = local n value xs >>= (λ t ys. Ok (s.Local t, ys))
+
 -- one of the two, of at most this height
 unfoldable pub unended : ℕ → Bool → Parser Stmt
 unended zero declares xs = none_fits xs
-unended (suc n) true xs = declaration (value n) xs
+unended (suc n) true xs = declaration n (value n) xs
 unended (suc n) false xs = simple (value n) xs
 
 -- ---- statements. `header` reads a declaration or a simple statement without its semicolon, and `part` a statement, directly
 -- in a block or not, that is lower than the whole.
 
 module _ (value : Parser Expr) (arguments : Parser (List Expr)) (header part : Bool → Parser Stmt) where
-  -- statements and the closing brace, behind those that are found; the number bounds the turns
+  -- statements and the closing brace, after those that are found; the number bounds the turns
   unfoldable pub stmts : ℕ → List Stmt → Parser (List Stmt)
   stmts zero found xs = Err no_tree
   stmts (suc n) found xs =
       if sees o.RightBrace xs then Ok (found, next xs) else (part true xs >>= (λ a ys. stmts n (found ++ a ∷ []) ys))
 
-  -- behind the opening brace
+  -- after the opening brace
   unfoldable pub block : Parser Stmt
   block xs = stmts (length xs) [] xs >>= (λ all ys. Ok (s.Block all, ys))
 
@@ -176,7 +173,7 @@ module _ (value : Parser Expr) (arguments : Parser (List Expr)) (header part : B
       if sees o.Semicolon xs then Ok (None, next xs)
       else (value xs >>= (λ e ys. expect o.Semicolon ys >>= (λ _ zs. Ok (Some e, zs))))
 
-  -- ---- behind the keyword
+  -- ---- after the keyword
 
   unfoldable pub otherwise : Parser (Option Stmt)
   otherwise xs = if sees_word w.Else xs then (part false (next xs) >>= (λ t ys. Ok (Some t, ys))) else Ok (None, xs)
@@ -192,7 +189,7 @@ module _ (value : Parser Expr) (arguments : Parser (List Expr)) (header part : B
       part false xs >>= (λ t ys. expect_word w.While ys >>= (λ _ zs. condition zs >>= (λ c us. expect o.Semicolon us >>= (λ _ vs.
       Ok (s.DoWhile t c, vs)))))
 
-  -- further simple statements and the token that closes the list, behind those that are found
+  -- further simple statements and the token that closes the list, after those that are found
   unfoldable pub more_simples : Operator → ℕ → List Stmt → Parser (List Stmt)
   more_simples close zero found xs = Err no_tree
   more_simples close (suc n) found xs =
@@ -226,13 +223,13 @@ module _ (value : Parser Expr) (arguments : Parser (List Expr)) (header part : B
 
   -- ---- the parts of a `try`
 
-  -- behind `catch`
+  -- after `catch`
   unfoldable pub catch : Parser CatchTree
   catch xs =
       expect o.LeftParen xs >>= (λ _ ys. ident ys >>= (λ class zs. ident zs >>= (λ name us. expect o.RightParen us >>= (λ _ vs.
       inner_block vs >>= (λ body ws. Ok (catch_clause class name body, ws))))))
 
-  -- the catch clauses, behind those that are found
+  -- the catch clauses, after those that are found
   unfoldable pub catches : ℕ → List CatchTree → Parser (List CatchTree)
   catches zero found xs = if sees_word w.Catch xs then Err no_tree else Ok (found, xs)
   catches (suc n) found xs =
@@ -247,10 +244,6 @@ module _ (value : Parser Expr) (arguments : Parser (List Expr)) (header part : B
       if handles clauses last then Ok (s.Try body clauses last, us) else Err no_tree)))
 
   -- ---- any statement
-
-  -- a declaration and its semicolon
-  unfoldable pub local_stmt : Parser Stmt
-  local_stmt xs = declaration value xs >>= (λ t ys. expect o.Semicolon ys >>= (λ _ zs. Ok (t, zs)))
 
   -- a simple statement and its semicolon
   unfoldable pub simple_stmt : Parser Stmt
@@ -280,14 +273,22 @@ module _ (value : Parser Expr) (arguments : Parser (List Expr)) (header part : B
   plain_stmt [] = Err no_tree
   plain_stmt (x ∷ xs) = stmt_by x.kind x.at (x ∷ xs) xs
 
+-- ---- the same, where a declaration may come first, whose type has the height n at most
+
+module _ (n : ℕ) (value : Parser Expr) (arguments : Parser (List Expr)) (header part : Bool → Parser Stmt) where
+  -- a declaration and its semicolon
+  unfoldable pub local_stmt : Parser Stmt
+  local_stmt xs = declaration n value xs >>= (λ t ys. expect o.Semicolon ys >>= (λ _ zs. Ok (t, zs)))
+
   unfoldable pub stmt : Bool → Parser Stmt
-  stmt in_block xs = if is_local xs then (if in_block then local_stmt xs else Err no_tree) else plain_stmt xs
+  stmt in_block xs =
+      if is_local xs then (if in_block then local_stmt xs else Err no_tree) else plain_stmt value arguments header part xs
 
 -- a statement of at most this height, directly in a block or not
 unfoldable pub statement : ℕ → Bool → Parser Stmt
 statement zero in_block xs = none_fits xs
-statement (suc n) in_block xs = stmt (value n) (arguments n) (unended n) (statement n) in_block xs
+statement (suc n) in_block xs = stmt n (value n) (arguments n) (unended n) (statement n) in_block xs
 
--- statements of at most this height and the closing brace, behind the opening one
+-- statements of at most this height and the closing brace, after the opening one
 unfoldable pub body : ℕ → Parser (List Stmt)
 body n xs = stmts (value n) (arguments n) (unended n) (statement n) (length xs) [] xs

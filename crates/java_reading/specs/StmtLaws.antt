@@ -1,11 +1,11 @@
 -- What is claimed of statements.
 use Rattle.std.specs.Prelude.{◌≡◌, ℕ, List, Bool}
 use Rattle.java_syntax.specs.declared.statement.Stmt.{Stmt, out-Stmt}
-use Rattle.java_syntax.specs.Lexeme.{Lexeme}
+use Rattle.token_reading.specs.Lexeme.{Lexeme}
 use Rattle.java_syntax.specs.Stmts.{is_declaration, StmtWithin}
-use Rattle.java_reading.specs.ReadType.{is_local}
+use Rattle.java_reading.specs.Lookahead.{is_local}
 
--- No two statements stand at the front of the same tokens, whatever stands behind them.
+-- No two statements stand at the front of the same tokens, whatever stands after them.
 abbrev pub OneStatement : Type 0
 OneStatement = (n m : ℕ) (in_block : Bool) (s t : Stmt) (xs ys zs : List Lexeme) → StmtWithin n in_block s xs ys → StmtWithin m in_block t xs zs
     → (s ≡ t) × (ys ≡ zs)

@@ -19,7 +19,7 @@ pub fn height_is_least()
     ensures { HeightIsLeast }
 {}
 
-/// The look-ahead behind a `(` sees a cast exactly where a type, a `)` and a token that can begin its operand follow.
+/// The look-ahead after a `(` sees a cast exactly where a type, a `)` and a token that can begin its operand follow.
 pub fn casts_are_seen()
     ensures { SeesCasts }
 {}

@@ -5,8 +5,8 @@ pub fn one_file()
     ensures { OneFile }
 {}
 
-/// Reading finds the classes of the file that spells the tokens, and gives no others. It answers that a tree is too high
-/// only where there are as many tokens as the height that is allowed.
+/// Reading finds the classes of the file that spells the tokens, and gives no others. It answers that a tree is too
+/// high only where there are as many tokens as the height that is allowed.
 pub fn files_are_read()
     ensures finds { FindsFiles }
     ensures gives { GivesFiles }

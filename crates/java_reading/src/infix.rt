@@ -1,6 +1,6 @@
 use java_syntax::BinaryOp;
 
-/// What a token does behind an operand (JLS 15).
+/// What a token does after an operand (JLS 15).
 #[derive(Clone, Copy, Debug, PartialEq, Eq)]
 pub enum Infix {
     /// It is an operator between two operands.

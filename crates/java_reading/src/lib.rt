@@ -2,7 +2,7 @@
 //! of java_syntax.
 //!
 //! The parser's contracts cite the functions in `specs/`; nothing here runs but the type that says what a token does
-//! behind an operand. `proofs/` shows that each tree that is written is read, that what is read is written, and that
+//! after an operand. `proofs/` shows that each tree that is written is read, that what is read is written, and that
 //! no tokens are two trees.
 //!
 //! Read `infix`, the files of `specs/` in their order, then the laws: `expression_law`, `statement_law` and `file_law`.

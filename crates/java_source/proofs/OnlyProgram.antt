@@ -8,7 +8,7 @@ use Rattle.java_syntax.specs.declared.class.FileTree.{FileTree}
 use Rattle.java_syntax.specs.Spells.{Spells}
 use Rattle.class_table.specs.Table.{table_of}
 use Rattle.java_parse.specs.Answer.{IsOnlyTree}
-use Rattle.java_types.specs.Files as types
+use Rattle.java_members.specs.Files as types
 use Rattle.java_source.specs.Accepted.{Accepted, IsOnlyProgram}
 
 -- the bytes have these tokens, only this tree spells them, and this is its program

@@ -2,18 +2,18 @@
 use Rattle.std.proofs.Common.{◌≡◌, ◌⊎◌, inl, inr, ℕ, ◌≤◌, List, [], length, refl}
 use Rattle.java_tokens.specs.declared.token.Token.{Token}
 use Rattle.java_tokens.specs.Tokens.{AreTokens}
-use Rattle.java_syntax.specs.declared.fault.Fault.{Fault}
-use Rattle.java_syntax.specs.declared.fault.CheckError.{CheckError}
-use Rattle.java_syntax.specs.declared.fault.CheckError.TheVariants as check
+use Rattle.token_reading.specs.declared.fault.Fault.{Fault}
+use Rattle.token_reading.specs.declared.fault.CheckError.{CheckError}
+use Rattle.token_reading.specs.declared.fault.CheckError.TheVariants as check
 use Rattle.java_syntax.specs.declared.class.FileTree.{FileTree}
 use Rattle.java_syntax.specs.Height.{file_height}
 use Rattle.java_syntax.specs.Spells.{Spells}
-use Rattle.java_parse.specs.declared.error.ParseError.{ParseError}
-use Rattle.java_parse.specs.declared.error.ParseError.TheVariants as parse
+use Rattle.token_reading.specs.declared.error.ParseError.{ParseError}
+use Rattle.token_reading.specs.declared.error.ParseError.TheVariants as parse
 use Rattle.java_parse.specs.Answer.{HasCause, IsOnlyTree}
 use Rattle.class_table.specs.Faults.{Blames, Clear}
 use Rattle.class_table.specs.Rules.{Breaks}
-use Rattle.java_exprs.specs.Checks.{Refuses}
+use Rattle.java_names.specs.Refusals.{Refuses}
 use Rattle.java_source.specs.declared.refusal.SourceError.{SourceError}
 use Rattle.java_source.specs.declared.refusal.SourceError.TheVariants as error
 use Rattle.java_source.specs.declared.refusal.SourceRefusal.TheVariants as refusal

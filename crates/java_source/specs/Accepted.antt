@@ -3,15 +3,15 @@ use Rattle.std.specs.Prelude.{◌≡◌, ◌⊎◌, ℕ, ◌≤◌, List, [], le
 use Rattle.core_tree.specs.declared.program.Program.{Program}
 use Rattle.java_tokens.specs.declared.token.Token.{Token}
 use Rattle.java_tokens.specs.Tokens.{AreTokens}
-use Rattle.java_syntax.specs.declared.fault.Fault.{Fault}
+use Rattle.token_reading.specs.declared.fault.Fault.{Fault}
 use Rattle.java_syntax.specs.declared.class.FileTree.{FileTree}
 use Rattle.java_syntax.specs.Height.{file_height}
 use Rattle.java_syntax.specs.Spells.{Spells}
 use Rattle.class_table.specs.Faults.{Clear}
 use Rattle.class_table.specs.Rules.{Breaks}
 use Rattle.class_table.specs.Table.{table_of}
-use Rattle.java_exprs.specs.Checks.{Has}
-use Rattle.java_types.specs.Files as types
+use Rattle.java_names.specs.Refusals.{Has}
+use Rattle.java_members.specs.Files as types
 use Rattle.throw_check.specs.Files as throws
 
 -- how many bytes a source may have

@@ -7,14 +7,14 @@ use Rattle.java_tokens.specs.declared.error.TokenError.{TokenError}
 use Rattle.java_tokens.specs.declared.error.TokenError.TheVariants as token
 use Rattle.java_tokens.specs.Tokens.{AreTokens}
 use Rattle.java_tokens.specs.Faults.{HasFault}
-use Rattle.java_syntax.specs.declared.fault.Fault.{Fault}
+use Rattle.token_reading.specs.declared.fault.Fault.{Fault}
 use Rattle.java_syntax.specs.declared.class.FileTree.{FileTree}
 use Rattle.java_syntax.specs.Height.{file_height}
 use Rattle.java_syntax.specs.Spells.{Spells}
-use Rattle.java_parse.specs.declared.error.ParseError.{ParseError}
-use Rattle.java_parse.specs.declared.error.ParseError.TheVariants as parse
+use Rattle.token_reading.specs.declared.error.ParseError.{ParseError}
+use Rattle.token_reading.specs.declared.error.ParseError.TheVariants as parse
 use Rattle.java_parse.specs.Answer.{IsOnlyTree, SpellsNothing, SpellsHighOnes}
-use Rattle.java_source.specs.declared.place.Place.{Place}
+use Rattle.java_source.specs.declared.place.SourcePlace.{SourcePlace}
 use Rattle.java_source.specs.declared.refusal.SourceError.{SourceError}
 use Rattle.java_source.specs.declared.refusal.SourceError.TheVariants as error
 use Rattle.java_source.specs.declared.refusal.SourceRefusal.{SourceRefusal}
@@ -25,15 +25,15 @@ use Rattle.java_source.specs.Accepted.{IsBroken, most_bytes}
 
 -- ---- places
 
-abbrev pub place_at : Token → Place
+abbrev pub place_at : Token → SourcePlace
 place_at t = record { line = t.line; column = t.column }
 
 -- the place of the token with this number; the file's beginning where no token has it
-abbrev pub place_of : List Token → ℕ → Place
+abbrev pub place_of : List Token → ℕ → SourcePlace
 place_of tokens at = option_map_or place_at (slice_get tokens at) (record { line = 1; column = 1 })
 
 -- one of the tokens stands at this place
-pub record IsPlaceAmong (tokens : List Token) (place : Place) : Type 0 where
+pub record IsPlaceAmong (tokens : List Token) (place : SourcePlace) : Type 0 where
   pub front : List Token
   pub token : Token
   pub behind : List Token
@@ -89,7 +89,7 @@ pub record IsTooHigh (bytes : List ℕ) : Type 0 where
 
 -- ---- rules
 
-abbrev pub refusal_at : ℕ → Place → SourceRefusal
+abbrev pub refusal_at : ℕ → SourcePlace → SourceRefusal
 refusal_at rule place = refusal.Fault rule place.line place.column
 
 abbrev pub rule_refusal : List Token → Fault → SourceRefusal
@@ -117,7 +117,7 @@ RefusesFor bytes (refusal.Syntax line column) = IsMalformed bytes line column
 RefusesFor bytes refusal.TooDeep = IsTooHigh bytes
 RefusesFor bytes (refusal.Fault rule line column) = BreaksRule bytes rule line column
 
--- why a source has no program; nothing is said of want of memory
+-- why a source has no program; nothing is said of memory that runs out
 abbrev pub IsRefused : List ℕ → SourceError → Type 0
 IsRefused bytes (error.Refused why) = RefusesFor bytes why
 IsRefused bytes error.OutOfMemory = Unit {0}

@@ -5,7 +5,7 @@ ghost use Rattle.core_tree.specs.WellTyped.{IsWellTyped};
 ghost use Rattle.java_syntax.specs.Spells.{Spells};
 ghost use Rattle.class_table.specs.Faults.{Blames};
 ghost use Rattle.class_table.specs.Table.{table_of};
-ghost use Rattle.java_types.specs.Files as types;
+ghost use Rattle.java_members.specs.Files as types;
 ghost use Rattle.java_source.specs.Accepted.{Accepted, BreaksNoRule, IsBroken, IsOnlyProgram};
 ghost use Rattle.java_source.specs.Refused.{IsRefused, TellsNoTree, rule_refusal};
 
@@ -13,13 +13,13 @@ use crate::place::{place_of, stopped_at};
 use crate::{SourceError, SourceRefusal};
 use class_table::table;
 use core_tree::Program;
+use java_members::environment;
 use java_parse::{ParseError, parse};
 use java_syntax::{CheckError, Fault, FileTree};
 use java_tokens::{Token, tokens};
-use java_types::resolve;
+use java_types::resolve_in;
 use std::alloc::Global;
-use throw_check::check;
-use typing_law::programs_are_typed;
+use throw_check::check_file;
 
 /// The bytes of the longest source.
 pub const MOST_BYTES: usize = 1_048_576;
@@ -27,8 +27,8 @@ pub const MOST_BYTES: usize = 1_048_576;
 /// The resolved program of a source: it has no other one, and is well typed.
 ///
 /// # Errors
-/// `Refused` where the source isn't accepted, by the first of these that refuses: its size, tokens, tree, and the checks
-/// of classes, of names and types, and of thrown exceptions. `OutOfMemory` may come for any source.
+/// `Refused` where the source isn't accepted, by the first of these that refuses: its size, tokens, tree, and the
+/// checks of classes, of names and types, and of thrown exceptions. `OutOfMemory` may come for any source.
 pub fn program_of(alloc: Global, bytes: &[u8]) -> Result<Program, SourceError>
     ensures program { IfOk result (Accepted bytes.now) }
     ensures only { IfOk result (IsOnlyProgram bytes.now) }
@@ -58,9 +58,9 @@ fn checked(alloc: Global, tree: &FileTree) -> Result<Program, CheckError>
     ensures fault { IfErr result (Blames (IsBroken tree.now)) }
 {
     let table = table(alloc, tree)?;
-    let program = resolve(alloc, &table, tree)?;
-    check(alloc, &table, tree)?;
-    programs_are_typed();
+    let mut env = environment(alloc, &table, tree)?;
+    let program = resolve_in(alloc, &mut env, &table, tree)?;
+    check_file(alloc, &env.symbols, tree)?;
     Ok(program)
 }
 

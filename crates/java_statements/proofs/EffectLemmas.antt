@@ -3,7 +3,7 @@ use Rattle.std.proofs.Common.{◌≡◌, ◌∙◌, ℕ, List, [], ◌∷◌, �
 use Rattle.std.specs.Prelude.{option_map}
 use Rattle.core_tree.specs.declared.stmt.Stmt.{Stmt as Step}
 use Rattle.core_tree.specs.declared.stmt.Catch.{Catch as Handler}
-use Rattle.java_syntax.specs.declared.fault.CheckError.{CheckError}
+use Rattle.token_reading.specs.declared.fault.CheckError.{CheckError}
 use Rattle.java_syntax.specs.declared.operator.AssignOp.{AssignOp}
 use Rattle.java_syntax.specs.declared.operator.StepOp.{StepOp}
 use Rattle.java_syntax.specs.declared.operator.Fix.{Fix}
@@ -16,8 +16,8 @@ use Rattle.java_syntax.specs.declared.statement.Stmt.TheOpen.{Stmt-F}
 use Rattle.java_syntax.specs.declared.statement.Stmt.TheFolds.{fold-Stmt, fold-roll-Stmt, fold_out-CatchTree}
 use Rattle.java_names.specs.declared.scope.Scope.{Scope}
 use Rattle.java_exprs.specs.declared.environment.Environment.{Environment}
-use Rattle.java_exprs.specs.Checks.{Refuses}
-use Rattle.java_exprs.proofs.RulesLemmas.{refuses_left}
+use Rattle.java_names.specs.Refusals.{Refuses}
+use Rattle.java_names.proofs.RefusalLemmas.{refuses_left}
 use Rattle.java_statements.specs.Effects.{Effects, CatchEffects, Part, CatchPart, sequence, clauses}
 use Rattle.java_statements.specs.Statements.{effect, catch_effect, effect_at, catch_at}
 
@@ -145,12 +145,12 @@ pub clauses_fault : (all : CatchEffects) (k : CatchPart) (ks : List CatchPart) (
 unfolding clauses
 clauses_fault all k ks s done e is h = rw is (refuses_left (k s).faults _ e h)
 
--- behind the last statement
+-- after the last statement
 pub sequence_end : (done : List Step) (s : Scope) → behind done (sequence [] s) ≡ record { after = s; steps = done; faults = [] }
 unfolding sequence
 sequence_end done s = ap (λ all. record { after = s; steps = all; faults = [] }) (append-nil done)
 
--- behind the last clause
+-- after the last clause
 pub clauses_end : (done : List Handler) (s : Scope) → clauses_behind done (clauses [] s) ≡ record { after = s; handlers = done; faults = [] }
 unfolding clauses
 clauses_end done s = ap (λ all. record { after = s; handlers = all; faults = [] }) (append-nil done)

@@ -1,11 +1,12 @@
 -- Lemmas on lists of faults of statements.
 use Rattle.std.proofs.Common.{ℕ, List, [], ◌∷◌, ◌++◌, inl, inr}
-use Rattle.java_syntax.specs.declared.fault.Fault.{Fault}
-use Rattle.java_syntax.specs.declared.fault.CheckError.{CheckError}
-use Rattle.java_syntax.specs.declared.fault.CheckError.TheVariants as error
+use Rattle.token_reading.specs.declared.fault.Fault.{Fault}
+use Rattle.token_reading.specs.declared.fault.CheckError.{CheckError}
+use Rattle.token_reading.specs.declared.fault.CheckError.TheVariants as error
 use Rattle.java_exprs.specs.Attr.{of_rule}
-use Rattle.java_exprs.specs.Checks.{Has, Refuses}
-use Rattle.java_exprs.proofs.RulesLemmas.{has_right, has_there}
+use Rattle.java_names.specs.Refusals.{Has, Refuses}
+use Rattle.java_names.proofs.RefusalLemmas.{has_right}
+use Rattle.java_exprs.proofs.RulesLemmas.{has_there}
 
 has_around : (xs ys zs : List Fault) (f : Fault) → Has (xs ++ zs) f → Has ((xs ++ ys) ++ zs) f
 has_around [] ys zs f h = has_right ys zs f h
@@ -15,7 +16,7 @@ has_behind : (xs ys zs : List Fault) (f : Fault) → Has (ys ++ zs) f → Has ((
 has_behind [] ys zs f h = h
 has_behind (x ∷ xs) ys zs f h = inr (has_behind xs ys zs f h)
 
--- of the faults of a part and those behind it, with others between them
+-- of the faults of a part and those after it, with others between them
 pub refuses_around : (xs ys zs : List Fault) (e : CheckError) → Refuses (xs ++ zs) e → Refuses ((xs ++ ys) ++ zs) e
 refuses_around xs ys zs (error.Fault f) h = has_around xs ys zs f h
 refuses_around xs ys zs error.OutOfMemory h = tt

@@ -1,10 +1,11 @@
 -- A fault of one item of a list is a fault of the list.
 use Rattle.std.proofs.Common.{◌≡◌, sym, subst, ℕ, zero, suc, ◌<◌, List, [], ◌∷◌, flat_map, length, get_or, arith}
-use Rattle.java_syntax.specs.declared.fault.Fault.{Fault}
-use Rattle.java_syntax.specs.declared.fault.CheckError.{CheckError}
+use Rattle.token_reading.specs.declared.fault.Fault.{Fault}
+use Rattle.token_reading.specs.declared.fault.CheckError.{CheckError}
 use Rattle.java_exprs.specs.Attr.{of_rule}
-use Rattle.java_exprs.specs.Checks.{Refuses}
-use Rattle.java_exprs.proofs.RulesLemmas.{refuses_left, refuses_right, refuses_here, refuses_there, both_places}
+use Rattle.java_names.specs.Refusals.{Refuses}
+use Rattle.java_names.proofs.RefusalLemmas.{refuses_left, refuses_right}
+use Rattle.java_exprs.proofs.RulesLemmas.{refuses_here, refuses_there, both_places}
 
 -- the faults of an item
 pub refuses_item : {X : Type 0} (f : X → List Fault) (xs : List X) (i : ℕ) (x : X) (e : CheckError)

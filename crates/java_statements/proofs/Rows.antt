@@ -6,9 +6,9 @@ use Rattle.core_tree.specs.declared.ty.Ty.TheVariants as ty
 use Rattle.core_tree.specs.declared.ty.Ty.TheBlock.{shown-the_row-Ty-0}
 use Rattle.core_tree.specs.declared.expr.Expr.TheVariants as core
 use Rattle.core_tree.specs.declared.stmt.Stmt.TheVariants as step
-use Rattle.java_syntax.specs.declared.name.Ident.{Ident}
-use Rattle.java_syntax.specs.declared.name.TypeTree.{TypeTree}
-use Rattle.java_syntax.specs.declared.name.BaseType.TheVariants.{Int, Class}
+use Rattle.token_reading.specs.declared.name.Ident.{Ident}
+use Rattle.token_reading.specs.declared.name.TypeTree.{TypeTree}
+use Rattle.token_reading.specs.declared.name.BaseType.TheVariants.{Int, Class}
 use Rattle.java_syntax.specs.declared.expression.Expr.TheVariants as tree
 use Rattle.java_syntax.specs.declared.statement.LocalTree.{LocalTree}
 use Rattle.java_syntax.specs.declared.statement.Stmt.TheOpen.{Stmt-F}
@@ -17,8 +17,8 @@ use Rattle.java_names.specs.declared.symbol.MakerSymbol.{MakerSymbol}
 use Rattle.java_names.specs.declared.scope.Scope.{Scope}
 use Rattle.java_names.specs.Scope.{first_scope, declared, left, back_at}
 use Rattle.java_exprs.specs.declared.environment.Environment.{Environment}
-use Rattle.java_exprs.specs.declared.typed.Denotation.{Denotation}
-use Rattle.java_exprs.specs.declared.typed.Denotation.TheVariants as denotes
+use Rattle.java_denotes.specs.declared.denotation.Denotation.{Denotation}
+use Rattle.java_denotes.specs.declared.denotation.Denotation.TheVariants as denotes
 use Rattle.java_exprs.specs.declared.typed.Form.{Form}
 use Rattle.java_exprs.specs.declared.typed.Form.TheVariants as form
 use Rattle.java_exprs.specs.Attr.{Attr}
@@ -97,7 +97,7 @@ unknown_type : stmt_10 env (Stmt-F.Local (local (class_type (codes "C") 6) (iden
 unfolding declared
 unknown_type = refl
 
--- behind its block a local may be declared again
+-- after its block a local may be declared again
 behind_block : stmt_10 env (Stmt-F.Local (local int_type (ident (codes "x") 7))) (left scope with_x) ≡ []
 unfolding declared back_at
 behind_block = refl

@@ -2,13 +2,13 @@
 use Rattle.std.specs.Prelude.{true, List, [], ◌∷◌, ◌++◌, Option, Some, None}
 use Rattle.core_tree.specs.declared.stmt.Stmt.{Stmt as Step}
 use Rattle.core_tree.specs.declared.stmt.Catch.{Catch as Handler}
-use Rattle.java_syntax.specs.declared.fault.Fault.{Fault}
+use Rattle.token_reading.specs.declared.fault.Fault.{Fault}
 use Rattle.java_syntax.specs.declared.statement.CatchTree.{CatchTree-F}
 use Rattle.java_syntax.specs.declared.statement.Stmt.TheOpen.{Stmt-F}
 use Rattle.java_names.specs.declared.scope.Scope.{Scope}
 use Rattle.java_names.specs.Scope.{left}
 
--- the scope behind a statement, what the statement resolves to, and the rules that are broken in it
+-- the scope after a statement, what the statement resolves to, and the rules that are broken in it
 pub record Effect : Type 0 where
   pub after : Scope
   pub step : Step
@@ -45,7 +45,7 @@ StmtNode = Stmt-F Part CatchPart
 abbrev pub CatchNode : Type 0
 CatchNode = CatchTree-F Part CatchPart
 
--- each statement stands in the scope behind the one before it
+-- each statement stands in the scope after the one before it
 unfoldable pub sequence : List Part → Scope → Effects
 sequence [] s = record { after = s; steps = []; faults = [] }
 sequence (k ∷ ks) s = record {

@@ -1,5 +1,5 @@
--- What a statement does to the scope, what it resolves to, and which rules it breaks (JLS 14). A statement is read by one
--- table for each question, given what is known of its parts.
+-- What a statement does to the scope, what it resolves to, and which rules it breaks (JLS 14). A statement is read by
+-- one table for each question, given what is known of its parts.
 use Rattle.std.specs.Prelude.{ℕ, Bool, true, false, ◌||◌, ◌&&◌, List, [], ◌∷◌, ◌++◌, map, length, Option, Some, None, option_map, is_some, is_none, unwrap_or, if◌then◌else◌}
 use Rattle.std.specs.Option.{option_map_or}
 use Rattle.core_tree.specs.declared.ty.Ty.{Ty}
@@ -14,8 +14,8 @@ use Rattle.core_tree.specs.declared.stmt.Stmt.{Stmt as Step}
 use Rattle.core_tree.specs.declared.stmt.Stmt.TheVariants as step
 use Rattle.core_tree.specs.declared.stmt.Stmt.TheViews as view
 use Rattle.core_tree.specs.Types.{is_int, is_boolean, is_string, is_void, is_object}
-use Rattle.java_syntax.specs.declared.fault.Fault.{Fault}
-use Rattle.java_syntax.specs.declared.name.Ident.{Ident}
+use Rattle.token_reading.specs.declared.fault.Fault.{Fault}
+use Rattle.token_reading.specs.declared.name.Ident.{Ident}
 use Rattle.java_syntax.specs.declared.operator.AssignOp.{AssignOp}
 use Rattle.java_syntax.specs.declared.operator.AssignOp.TheVariants as assign
 use Rattle.java_syntax.specs.declared.operator.StepOp.{StepOp}
@@ -29,13 +29,14 @@ use Rattle.java_syntax.specs.declared.statement.Stmt.TheFolds.{fold-Stmt, fold-C
 use Rattle.java_names.specs.declared.scope.Scope.{Scope}
 use Rattle.java_names.specs.Lookups.{is_below}
 use Rattle.java_names.specs.Scope.{declared, left}
-use Rattle.java_names.specs.Types.{declared_type, is_string as is_string_name}
+use Rattle.java_names.specs.Types.{declared_type, exception_type, is_string as is_string_name}
 use Rattle.java_exprs.specs.declared.environment.Environment.{Environment}
-use Rattle.java_exprs.specs.declared.typed.Denotation.{Denotation}
-use Rattle.java_exprs.specs.declared.typed.Denotation.TheVariants as denotes
+use Rattle.java_denotes.specs.declared.denotation.Denotation.{Denotation}
+use Rattle.java_denotes.specs.declared.denotation.Denotation.TheVariants as denotes
 use Rattle.java_exprs.specs.declared.typed.Form.{Form}
 use Rattle.java_exprs.specs.declared.typed.Form.TheVariants as form
-use Rattle.java_exprs.specs.Attr.{Attr, value_type, unless, only_if, of_rule, value_faults, values_faults, statement_faults}
+use Rattle.java_exprs.specs.Attr.{Attr, unless, only_if, of_rule, value_faults, values_faults, statement_faults}
+use Rattle.java_denotes.specs.Members.{value_type}
 use Rattle.java_exprs.specs.Lookups.{class_named, local_named, unknown_type}
 use Rattle.java_exprs.specs.Rules.{wants, wants_type, both_11, bitwise_11, of_types, sum_21}
 use Rattle.java_exprs.specs.Checks.{attr}
@@ -53,9 +54,9 @@ with_local env t s = declared s t.name.name (local_type env t)
 
 -- the class that a catch clause takes; `Void` where its name is unknown
 abbrev pub caught_type : Environment → Ident → Ty
-caught_type env c = option_map_or ty.Class (class_named env c.name) ty.Void
+caught_type env c = exception_type env.symbols.names c.name
 
--- the scopes of a `for`: behind its start, behind its updates, and behind its body (JLS 14.14.1)
+-- the scopes of a `for`: after its start, after its updates, and after its body (JLS 14.14.1)
 abbrev pub started : List Part → Scope → Scope
 started start s = (sequence start s).after
 
@@ -155,7 +156,7 @@ abbrev pub stmt_10 : Environment → StmtNode → Scope → List ℕ
 stmt_10 env (Stmt-F.Local t) s = unknown_type env t.ty ++ again_10 s t.name
 stmt_10 env _ s = []
 
--- a class behind `catch` or `throws` is known; String is a type, and is for rule 11
+-- a class after `catch` or `throws` is known; String is a type, and is for rule 11
 abbrev pub exception_10 : Environment → Ident → List ℕ
 exception_10 env c = unless (is_some (class_named env c.name) || is_string_name c.name) c.at
 
@@ -168,7 +169,8 @@ catch_10 env c s = exception_10 env c.class ++ again_10 s c.name
 abbrev pub condition_11 : Environment → Scope → Expr → List ℕ
 condition_11 env s c = wants is_boolean (attr env s c)
 
--- a String takes what concatenation joins, but for instances and arrays, which are for rule 21; other variables take ints
+-- a String takes what concatenation joins, but for instances and arrays, which are for rule 21; other variables take
+-- ints
 abbrev pub sum_11 : Attr → Attr → List ℕ
 sum_11 a e = of_types (λ t u. if is_string t || (is_object t && is_string u) then [] else both_11 is_int a e) a e
 
@@ -201,7 +203,7 @@ stmt_11 env (Stmt-F.Return at e) s = return_11 env at e s
 stmt_11 env (Stmt-F.Throw e) s = wants_type env throwable (attr env s e)
 stmt_11 env _ s = []
 
--- a class behind `catch` or `throws` is Throwable or below it
+-- a class after `catch` or `throws` is Throwable or below it
 abbrev pub exception_11 : Environment → Ident → List ℕ
 exception_11 env c = option_map_or (λ class. unless (is_below env.symbols class 1) c.at) (class_named env c.name) (only_if (is_string_name c.name) c.at)
 
@@ -221,7 +223,7 @@ stmt_17 (Stmt-F.Break at) s = unless s.in_loop at
 stmt_17 (Stmt-F.Continue at) s = unless s.in_loop at
 stmt_17 _ s = []
 
--- ---- 18: an expression statement that is no call and no `new`, or an assignment target that is no local, field or element
+-- ---- 18: an expression statement that is neither a call nor a `new`, or an assignment target that isn't a local, field or element
 
 abbrev pub is_call : Form → Bool
 is_call form.Call = true

@@ -6,17 +6,18 @@ ghost use Rattle.core_tree.specs.declared.expr.Expr.{out-Expr};
 ghost use Rattle.java_syntax.specs.declared.operator.Fix.TheVariants as fix;
 ghost use Rattle.java_syntax.specs.declared.statement.Stmt.TheOpen.{Stmt-F};
 ghost use Rattle.java_exprs.specs.Attr.{of_rule};
-ghost use Rattle.java_exprs.specs.Checks.{Allows, Refuses, of_value};
+ghost use Rattle.java_names.specs.Refusals.{Allows, Refuses};
+ghost use Rattle.java_exprs.specs.Checks.{of_value};
 ghost use Rattle.java_exprs.specs.Rules as rule;
 ghost use Rattle.java_statements.specs.Outcomes.{Gives};
 ghost use Rattle.java_statements.specs.Statements as spec;
 ghost use Rattle.java_statements.specs.Statements.{effect_at};
 
+use core_tree::forms::{is_object, is_string};
 use core_tree::{Expr as Core, Stmt as Step, Target, Ty, UpOp};
 use java_exprs::arguments::fit;
 use java_exprs::expression::value;
 use java_exprs::fault::fault;
-use java_exprs::forms::{is_object, is_string};
 use java_exprs::operators::{want_alike, want_ints, wants_int};
 use java_exprs::{Environment, Form, Value};
 use java_names::Scope;
@@ -24,7 +25,7 @@ use java_syntax::{AssignOp, CheckError, Expr, StepOp};
 use sqlite_items::Boxed;
 use std::alloc::{AllocError, Global};
 
-// Sees that the operands of `+=` fit: a String takes what concatenation joins, other variables take ints.
+// Checks that the operands of `+=` fit: a String takes what concatenation joins, other variables take ints.
 fn want_summands(target: &Value, e: &Value) -> Result<(), CheckError>
     ensures { Allows (of_rule 11 (spec.sum_11 (of_value target.now) (of_value e.now)) (of_rule 21 (rule.sum_21 (of_value target.now) (of_value e.now)) [])) result }
 {
@@ -37,7 +38,7 @@ fn want_summands(target: &Value, e: &Value) -> Result<(), CheckError>
     want_ints(target, e)
 }
 
-// Sees that the types of both sides suit the sign.
+// Checks that the types of both sides suit the sign.
 fn check_types(env: &Environment, op: AssignOp, target: &Value, e: &Value) -> Result<(), CheckError>
     ensures { Allows (of_rule 11 (spec.assign_11 env.now op (of_value target.now) (of_value e.now)) (of_rule 21 (spec.assign_21 op (of_value target.now) (of_value e.now)) [])) result }
 {
@@ -49,7 +50,7 @@ fn check_types(env: &Environment, op: AssignOp, target: &Value, e: &Value) -> Re
     }
 }
 
-// Sees that the variable takes the value.
+// Checks that the variable takes the value.
 fn check_assignment(
     env: &Environment,
     op: AssignOp,
@@ -118,7 +119,7 @@ fn assigned(alloc: Global, op: Option<UpOp>, target: Core, e: Core) -> Result<St
 /// `a op= e`
 ///
 /// # Errors
-/// `Fault` of a rule that is broken in it. `OutOfMemory` where there is no memory left.
+/// `Fault` of a rule that is broken in it. `OutOfMemory` where memory runs out.
 #[tactic(auto, using(java_exprs::proofs::RulesLemmas::joins))]
 pub fn assign(
     alloc: Global,
@@ -148,7 +149,7 @@ fn counted(op: StepOp, target: Core) -> Step
     }
 }
 
-// Sees that the variable can be counted up or down.
+// Checks that the variable can be counted up or down.
 fn check_counted(target: &Value) -> Result<(), CheckError>
     ensures { Allows (of_rule 11 (rule.wants of.is_int (of_value target.now)) (of_rule 18 (spec.target_18 (of_value target.now)) (of_rule 20 (spec.constant_20 target.now.form) []))) result }
 {
@@ -162,7 +163,7 @@ fn check_counted(target: &Value) -> Result<(), CheckError>
 /// `++a`, `a--`: where the sign stands makes no difference to a statement.
 ///
 /// # Errors
-/// `Fault` of a rule that is broken in it. `OutOfMemory` where there is no memory left.
+/// `Fault` of a rule that is broken in it. `OutOfMemory` where memory runs out.
 #[tactic(auto, using(java_exprs::proofs::RulesLemmas::joins))]
 pub fn count(
     alloc: Global,

@@ -2,7 +2,7 @@
 
 ghost use Rattle.std.specs.Prelude.{◌≡◌, [], map, option_map, IfOk, IfErr};
 ghost use Rattle.java_syntax.specs.declared.statement.Stmt.TheOpen.{Stmt-F};
-ghost use Rattle.java_exprs.specs.Checks.{Refuses};
+ghost use Rattle.java_names.specs.Refusals.{Refuses};
 ghost use Rattle.java_statements.specs.Effects.{branch, inner};
 ghost use Rattle.java_statements.specs.Outcomes.{Gives};
 ghost use Rattle.java_statements.specs.Statements.{effect, effect_at};
@@ -19,7 +19,7 @@ use std::alloc::Global;
 /// `{ .. }`, resolved. Its locals end with it (JLS 6.3, 14.2).
 ///
 /// # Errors
-/// `Fault` of a rule that is broken in it. `OutOfMemory` where there is no memory left. The scope then serves no more.
+/// `Fault` of a rule that is broken in it. `OutOfMemory` where memory runs out. The scope then serves no more.
 #[cycle(statements)]
 #[tactic(auto, using(java_exprs::proofs::RulesLemmas::joins))]
 pub fn block(
@@ -39,7 +39,7 @@ pub fn block(
 /// A statement by itself, resolved: the locals that it declares end with it (JLS 6.3).
 ///
 /// # Errors
-/// `Fault` of a rule that is broken in it. `OutOfMemory` where there is no memory left. The scope then serves no more.
+/// `Fault` of a rule that is broken in it. `OutOfMemory` where memory runs out. The scope then serves no more.
 #[cycle(statements)]
 #[tactic(auto, unfolding(crate::specs::Effects::inner))]
 pub fn inside(
@@ -77,11 +77,11 @@ pub fn optional(
     }
 }
 
-/// `if (c) s else t` or `if (c) s`, resolved (JLS 14.9). It is handed the whole statement beside its parts, so that they are
-/// seen to be smaller.
+/// `if (c) s else t` or `if (c) s`, resolved (JLS 14.9). It is handed the whole statement beside its parts, so that
+/// they are seen to be smaller.
 ///
 /// # Errors
-/// `Fault` of a rule that is broken in it. `OutOfMemory` where there is no memory left. The scope then serves no more.
+/// `Fault` of a rule that is broken in it. `OutOfMemory` where memory runs out. The scope then serves no more.
 #[cycle(statements)]
 #[tactic(auto, using(java_exprs::proofs::RulesLemmas::joins, crate::proofs::FaultLemmas::around))]
 pub fn choice(

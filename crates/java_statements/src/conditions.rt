@@ -3,7 +3,8 @@
 ghost use Rattle.std.specs.Prelude.{◌≡◌, ◌++◌, [], IfOk, IfErr, OnOk};
 ghost use Rattle.std.specs.Option.{option_map_or};
 ghost use Rattle.java_exprs.specs.Attr.{of_rule, value_faults};
-ghost use Rattle.java_exprs.specs.Checks.{Refuses, attr};
+ghost use Rattle.java_names.specs.Refusals.{Refuses};
+ghost use Rattle.java_exprs.specs.Checks.{attr};
 ghost use Rattle.java_statements.specs.Statements as spec;
 
 use core_tree::Expr as Core;
@@ -18,7 +19,7 @@ use std::alloc::Global;
 /// A condition, resolved.
 ///
 /// # Errors
-/// `Fault` of a rule that is broken in it, of rule 11 where it is no boolean. `OutOfMemory` where there is no memory left.
+/// `Fault` of a rule that is broken in it, of rule 11 where it isn't a boolean. `OutOfMemory` where memory runs out.
 #[tactic(auto, using(java_exprs::proofs::RulesLemmas::joins))]
 pub fn condition(
     alloc: Global,

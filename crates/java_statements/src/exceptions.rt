@@ -1,8 +1,8 @@
-//! The classes behind `throws` and of catch clauses (JLS 8.4.6, 8.8.5, 14.20).
+//! The classes after `throws` and of catch clauses (JLS 8.4.6, 8.8.5, 14.20).
 
 ghost use Rattle.std.specs.Prelude.{◌≡◌, [], Some, flat_map, IfOk, IfErr, OnOk};
 ghost use Rattle.java_exprs.specs.Attr.{of_rule};
-ghost use Rattle.java_exprs.specs.Checks.{Allows, Refuses};
+ghost use Rattle.java_names.specs.Refusals.{Allows, Refuses};
 ghost use Rattle.java_exprs.specs.Lookups.{class_named};
 ghost use Rattle.java_names.specs.Types as types;
 ghost use Rattle.java_statements.specs.Statements as spec;
@@ -22,7 +22,7 @@ fn is_string(name: &Name) -> bool
     matches!(name.characters(), ['S', 't', 'r', 'i', 'n', 'g'])
 }
 
-// Sees that the name is known, as that of a class or as String.
+// Checks that the name is known, as that of a class or as String.
 fn check_known(env: &Environment, class: &Ident) -> Result<(), CheckError>
     ensures { Allows (of_rule 10 (spec.exception_10 env.now class.now) []) result }
 {
@@ -32,7 +32,7 @@ fn check_known(env: &Environment, class: &Ident) -> Result<(), CheckError>
     Err(fault(10, class.at))
 }
 
-// Sees that a known class is Throwable or below it.
+// Checks that a known class is Throwable or below it.
 fn check_throwable(env: &Environment, class: &Ident) -> Result<(), CheckError>
     ensures { Allows (of_rule 11 (spec.exception_11 env.now class.now) []) result }
 {
@@ -46,7 +46,7 @@ fn check_throwable(env: &Environment, class: &Ident) -> Result<(), CheckError>
     Ok(())
 }
 
-/// Sees that the classes behind `throws` are known.
+/// Checks that the classes after `throws` are known.
 ///
 /// # Errors
 /// `Fault` of rule 10 at a name that is unknown.
@@ -59,7 +59,7 @@ pub fn check_all_known(env: &Environment, throws: &[Ident]) -> Result<(), CheckE
     Ok(())
 }
 
-/// Sees that the classes behind `throws` that are known are Throwable or below it.
+/// Checks that the classes after `throws` that are known are Throwable or below it.
 ///
 /// # Errors
 /// `Fault` of rule 11 at a name that is String or that of a class that isn't Throwable or below it.

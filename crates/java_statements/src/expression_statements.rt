@@ -3,21 +3,23 @@
 ghost use Rattle.std.specs.Prelude.{◌≡◌, ◌++◌, [], IfOk, Some};
 ghost use Rattle.java_syntax.specs.declared.statement.Stmt.TheOpen.{Stmt-F};
 ghost use Rattle.java_exprs.specs.Attr.{of_rule, statement_faults, unless};
-ghost use Rattle.java_exprs.specs.Checks.{Allows, clean};
+ghost use Rattle.java_names.specs.Refusals.{Allows};
+ghost use Rattle.java_exprs.specs.Checks.{clean};
 ghost use Rattle.java_statements.specs.Outcomes.{Gives};
 ghost use Rattle.java_statements.specs.Statements as spec;
 ghost use Rattle.java_statements.specs.Statements.{effect_at};
 
 use core_tree::{Expr as Core, Stmt as Step};
+use java_denotes::{Denotation, Printing};
 use java_exprs::expression::expr;
 use java_exprs::fault::fault;
-use java_exprs::{Denotation, Environment, Form, Printing, Typed};
+use java_exprs::{Environment, Form, Typed};
 use java_names::Scope;
 use java_syntax::{CheckError, Expr};
 use sqlite_items::Boxed;
 use std::alloc::{AllocError, Global};
 
-// Sees that the expression may stand as a statement.
+// Checks that the expression may stand as a statement.
 fn check_statement(e: &Typed) -> Result<(), CheckError>
     ensures { Allows (statement_faults (clean e.now) ++ of_rule 18 (unless (spec.is_call e.now.form) e.now.at) []) result }
 {
@@ -60,7 +62,7 @@ fn evaluated(alloc: Global, core: Core, denotes: Denotation) -> Result<Step, All
 /// `e;`
 ///
 /// # Errors
-/// `Fault` of a rule that is broken in it. `OutOfMemory` where there is no memory left.
+/// `Fault` of a rule that is broken in it. `OutOfMemory` where memory runs out.
 #[tactic(auto, using(java_exprs::proofs::RulesLemmas::joins))]
 pub fn eval(alloc: Global, env: &Environment, scope: &Scope, e: &Expr) -> Result<Step, CheckError>
     ensures { Gives (effect_at env.now (Stmt-F.Eval e.now) scope.now) scope.now result }

@@ -5,12 +5,12 @@ ghost use Rattle.java_syntax.specs.declared.statement.Stmt.TheOpen.{Stmt-F};
 ghost use Rattle.java_statements.specs.Outcomes.{Gives};
 ghost use Rattle.java_statements.specs.Statements.{effect_at};
 
+use core_tree::forms::is_void;
 use core_tree::{BuiltIn, Stmt as Step, Ty};
 use java_exprs::Environment;
 use java_exprs::arguments::fit;
 use java_exprs::expression::value;
 use java_exprs::fault::fault;
-use java_exprs::forms::is_void;
 use java_names::Scope;
 use java_syntax::{CheckError, Expr};
 use sqlite_items::Boxed;
@@ -91,7 +91,7 @@ fn return_value(
 /// `return;` or `return e;`
 ///
 /// # Errors
-/// `Fault` of a rule that is broken in it. `OutOfMemory` where there is no memory left.
+/// `Fault` of a rule that is broken in it. `OutOfMemory` where memory runs out.
 pub fn answer(
     alloc: Global,
     env: &Environment,
@@ -110,7 +110,7 @@ pub fn answer(
 /// `throw e;`
 ///
 /// # Errors
-/// `Fault` of a rule that is broken in it. `OutOfMemory` where there is no memory left.
+/// `Fault` of a rule that is broken in it. `OutOfMemory` where memory runs out.
 #[tactic(auto, using(java_exprs::proofs::RulesLemmas::joins))]
 pub fn throw(alloc: Global, env: &Environment, scope: &Scope, e: &Expr) -> Result<Step, CheckError>
     ensures { Gives (effect_at env.now (Stmt-F.Throw e.now) scope.now) scope.now result }

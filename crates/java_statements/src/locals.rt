@@ -5,14 +5,14 @@ ghost use Rattle.std.specs.Option.{option_map_or};
 ghost use Rattle.java_syntax.specs.declared.statement.Stmt.TheOpen.{Stmt-F};
 ghost use Rattle.java_names.specs.Scope.{declared};
 ghost use Rattle.java_exprs.specs.Attr.{of_rule};
-ghost use Rattle.java_exprs.specs.Checks.{Refuses, attr};
+ghost use Rattle.java_names.specs.Refusals.{Refuses};
+ghost use Rattle.java_exprs.specs.Checks.{attr};
 ghost use Rattle.java_exprs.specs.Rules.{wants_type};
 ghost use Rattle.java_statements.specs.Outcomes.{Gives};
 ghost use Rattle.java_statements.specs.Statements as spec;
 ghost use Rattle.java_statements.specs.Statements.{effect_at};
 
-use class_table::Shared;
-use core_tree::{Expr as Core, Stmt as Step, Ty};
+use core_tree::{Expr as Core, Shared, Stmt as Step, Ty};
 use java_exprs::Environment;
 use java_exprs::arguments::fit;
 use java_exprs::casts::named_type;
@@ -33,7 +33,7 @@ struct Entered {
 /// Declares a local of this type, where its name is that of no local in scope, and gives its number.
 ///
 /// # Errors
-/// `Fault` of rule 10 at the name, where a local in scope has it. `OutOfMemory` where there is no memory left.
+/// `Fault` of rule 10 at the name, where a local in scope has it. `OutOfMemory` where memory runs out.
 pub fn declare(scope: &mut Scope, name: &Ident, ty: Shared<Ty>) -> Result<u32, CheckError>
     ensures slot { IfOk result (λ slot. slot ≡ length scope.old.slots) }
     ensures scope { OnOk result (scope.new ≡ declared scope.old name.now.name ty) }
@@ -96,7 +96,7 @@ fn initial(
 /// `T x = e;` or `T x;`. The local is in scope in its own initialiser.
 ///
 /// # Errors
-/// `Fault` of a rule that is broken in it. `OutOfMemory` where there is no memory left.
+/// `Fault` of a rule that is broken in it. `OutOfMemory` where memory runs out.
 #[tactic(auto, using(java_exprs::proofs::RulesLemmas::joins))]
 pub fn local(
     alloc: Global,

@@ -37,7 +37,7 @@ fn repeated(
 /// smaller; so are the others here.
 ///
 /// # Errors
-/// `Fault` of a rule that is broken in it. `OutOfMemory` where there is no memory left. The scope then serves no more.
+/// `Fault` of a rule that is broken in it. `OutOfMemory` where memory runs out. The scope then serves no more.
 #[cycle(statements)]
 #[tactic(auto, using(java_exprs::proofs::RulesLemmas::joins, crate::proofs::FaultLemmas::around))]
 pub fn while_loop(
@@ -59,7 +59,7 @@ pub fn while_loop(
 /// `do s while (c);`, resolved (JLS 14.13). The condition is read first: no local of the body is in scope in it.
 ///
 /// # Errors
-/// `Fault` of a rule that is broken in it. `OutOfMemory` where there is no memory left. The scope then serves no more.
+/// `Fault` of a rule that is broken in it. `OutOfMemory` where memory runs out. The scope then serves no more.
 #[cycle(statements)]
 #[tactic(auto, using(java_exprs::proofs::RulesLemmas::joins, crate::proofs::FaultLemmas::around))]
 pub fn do_loop(
@@ -81,7 +81,7 @@ pub fn do_loop(
 /// `for (start; c; update) s`, resolved (JLS 14.14.1). What the start declares is in scope up to the end of the loop.
 ///
 /// # Errors
-/// `Fault` of a rule that is broken in it. `OutOfMemory` where there is no memory left. The scope then serves no more.
+/// `Fault` of a rule that is broken in it. `OutOfMemory` where memory runs out. The scope then serves no more.
 #[cycle(statements)]
 #[tactic(auto, using(java_exprs::proofs::RulesLemmas::joins, crate::proofs::FaultLemmas::around))]
 pub fn for_loop(

@@ -1,7 +1,7 @@
 //! Statements, and the body of a method or a constructor (JLS 14).
 
 ghost use Rattle.std.specs.Prelude.{◌≡◌, [], map, IfOk, IfErr};
-ghost use Rattle.java_exprs.specs.Checks.{Refuses};
+ghost use Rattle.java_names.specs.Refusals.{Refuses};
 ghost use Rattle.java_statements.specs.Effects.{sequence};
 ghost use Rattle.java_statements.specs.Outcomes.{Gives};
 ghost use Rattle.java_statements.specs.Statements.{effect};
@@ -23,7 +23,7 @@ use std::alloc::Global;
 /// A statement, checked and resolved. What it declares is in the scope from then on.
 ///
 /// # Errors
-/// `Fault` of a rule that is broken in it. `OutOfMemory` where there is no memory left. The scope then serves no more.
+/// `Fault` of a rule that is broken in it. `OutOfMemory` where memory runs out. The scope then serves no more.
 #[cycle(statements)]
 #[tactic(auto, using(crate::proofs::EffectLemmas::effects))]
 pub fn stmt(
@@ -65,10 +65,10 @@ pub fn stmt(
     }
 }
 
-/// The statements of a body or a block, each checked and resolved in the scope behind the one before it.
+/// The statements of a body or a block, each checked and resolved in the scope after the one before it.
 ///
 /// # Errors
-/// `Fault` of a rule that is broken in one of them. `OutOfMemory` where there is no memory left. The scope then serves no
+/// `Fault` of a rule that is broken in one of them. `OutOfMemory` where memory runs out. The scope then serves no
 /// more.
 #[cycle(statements)]
 #[tactic(auto, using(crate::proofs::EffectLemmas::sequence_step))]

@@ -4,7 +4,7 @@ ghost use Rattle.std.specs.Prelude.{◌≡◌, ◌++◌, [], Some, map, option_m
 ghost use Rattle.java_syntax.specs.declared.statement.Stmt.TheOpen.{Stmt-F};
 ghost use Rattle.java_names.specs.Scope.{declared};
 ghost use Rattle.java_exprs.specs.Attr.{of_rule};
-ghost use Rattle.java_exprs.specs.Checks.{Refuses};
+ghost use Rattle.java_names.specs.Refusals.{Refuses};
 ghost use Rattle.java_exprs.specs.Lookups.{class_named};
 ghost use Rattle.java_statements.specs.Effects as effects;
 ghost use Rattle.java_statements.specs.Outcomes.{Gives};
@@ -15,8 +15,7 @@ use crate::blocks::{inside, optional};
 use crate::exceptions::throwable;
 use crate::locals::declare;
 use crate::statements::stmt;
-use class_table::Shared;
-use core_tree::{Catch, Stmt as Step, Ty};
+use core_tree::{Catch, Shared, Stmt as Step, Ty};
 use java_exprs::Environment;
 use java_names::Scope;
 use java_syntax::{CatchTree, CheckError, Ident, Stmt};
@@ -71,7 +70,7 @@ fn clause(
     Ok(Catch { class, slot, body })
 }
 
-// Catch clauses, each in the scope behind the one before it.
+// Catch clauses, each in the scope after the one before it.
 #[cycle(statements)]
 #[tactic(auto, using(crate::proofs::EffectLemmas::clauses_step))]
 fn clauses(
@@ -90,11 +89,11 @@ fn clauses(
     Ok(handlers)
 }
 
-/// `try { .. } catch (C x) { .. } finally { .. }`, resolved (JLS 14.20). It is handed the whole statement beside its parts,
-/// so that they are seen to be smaller.
+/// `try { .. } catch (C x) { .. } finally { .. }`, resolved (JLS 14.20). It is handed the whole statement beside its
+/// parts, so that they are seen to be smaller.
 ///
 /// # Errors
-/// `Fault` of a rule that is broken in it. `OutOfMemory` where there is no memory left. The scope then serves no more.
+/// `Fault` of a rule that is broken in it. `OutOfMemory` where memory runs out. The scope then serves no more.
 #[cycle(statements)]
 #[tactic(auto, using(java_exprs::proofs::RulesLemmas::joins))]
 pub fn try_block(

@@ -5,12 +5,13 @@ use Rattle.java_syntax.specs.declared.expression.Expr.TheFolds.{fold-roll-Expr}
 use Rattle.java_syntax.specs.declared.expression.Expr.TheOpen.{Expr-F}
 use Rattle.java_syntax.specs.declared.expression.Expr.TheVariants as e
 use Rattle.java_syntax.specs.declared.expression.Expr.TheVariants.{rolls-Number, rolls-Text, rolls-Bool, rolls-Null, rolls-This, rolls-Name, rolls-Call, rolls-Paren, rolls-Super, rolls-New, rolls-NewArray, rolls-Field, rolls-Method, rolls-Element, rolls-Unary, rolls-Cast, rolls-Binary, rolls-InstanceOf, rolls-Conditional}
-use Rattle.java_syntax.specs.declared.name.BaseType.{BaseType}
-use Rattle.java_syntax.specs.declared.name.Ident.{Ident}
-use Rattle.java_syntax.specs.declared.name.TypeTree.{TypeTree}
+use Rattle.token_reading.specs.declared.name.BaseType.{BaseType}
+use Rattle.token_reading.specs.declared.name.Ident.{Ident}
+use Rattle.token_reading.specs.declared.name.TypeTree.{TypeTree}
 use Rattle.java_syntax.specs.declared.operator.BinaryOp.{BinaryOp}
 use Rattle.java_syntax.specs.declared.operator.UnaryOp.{UnaryOp}
-use Rattle.java_syntax.specs.Height.{highest, layer_height, expr_height}
+use Rattle.token_reading.specs.Height.{highest, type_height}
+use Rattle.java_syntax.specs.Height.{layer_height, expr_height}
 
 pub height_number : (at n : ℕ) → expr_height (e.Number at n) ≡ 1
 height_number at n = ap expr_height (sym (rolls-Number at n)) ∙ fold-roll-Expr ℕ layer_height (Expr-F.Number at n)
@@ -42,7 +43,7 @@ height_super at x given = ap expr_height (sym (rolls-Super at x given)) ∙ fold
 pub height_new : (at : ℕ) (x : Ident) (given : List Expr) → expr_height (e.New at x given) ≡ highest (map expr_height given) + 1
 height_new at x given = ap expr_height (sym (rolls-New at x given)) ∙ fold-roll-Expr ℕ layer_height (Expr-F.New at x given)
 
-pub height_new_array : (at : ℕ) (b : BaseType) (a : Expr) (n : ℕ) → expr_height (e.NewArray at b a n) ≡ expr_height a + 1
+pub height_new_array : (at : ℕ) (b : BaseType) (a : Expr) (n : ℕ) → expr_height (e.NewArray at b a n) ≡ max n (expr_height a) + 1
 height_new_array at b a n = ap expr_height (sym (rolls-NewArray at b a n)) ∙ fold-roll-Expr ℕ layer_height (Expr-F.NewArray at b a n)
 
 pub height_field : (a : Expr) (x : Ident) → expr_height (e.Field a x) ≡ expr_height a + 1
@@ -58,13 +59,13 @@ height_element a i = ap expr_height (sym (rolls-Element a i)) ∙ fold-roll-Expr
 pub height_unary : (at : ℕ) (op : UnaryOp) (a : Expr) → expr_height (e.Unary at op a) ≡ expr_height a + 1
 height_unary at op a = ap expr_height (sym (rolls-Unary at op a)) ∙ fold-roll-Expr ℕ layer_height (Expr-F.Unary at op a)
 
-pub height_cast : (at : ℕ) (t : TypeTree) (a : Expr) → expr_height (e.Cast at t a) ≡ expr_height a + 1
+pub height_cast : (at : ℕ) (t : TypeTree) (a : Expr) → expr_height (e.Cast at t a) ≡ max (type_height t) (expr_height a) + 1
 height_cast at t a = ap expr_height (sym (rolls-Cast at t a)) ∙ fold-roll-Expr ℕ layer_height (Expr-F.Cast at t a)
 
 pub height_binary : (op : BinaryOp) (a b : Expr) → expr_height (e.Binary op a b) ≡ max (expr_height a) (expr_height b) + 1
 height_binary op a b = ap expr_height (sym (rolls-Binary op a b)) ∙ fold-roll-Expr ℕ layer_height (Expr-F.Binary op a b)
 
-pub height_instance_of : (a : Expr) (t : TypeTree) → expr_height (e.InstanceOf a t) ≡ expr_height a + 1
+pub height_instance_of : (a : Expr) (t : TypeTree) → expr_height (e.InstanceOf a t) ≡ max (type_height t) (expr_height a) + 1
 height_instance_of a t = ap expr_height (sym (rolls-InstanceOf a t)) ∙ fold-roll-Expr ℕ layer_height (Expr-F.InstanceOf a t)
 
 pub height_conditional : (c a b : Expr) → expr_height (e.Conditional c a b) ≡ max (expr_height c) (max (expr_height a) (expr_height b)) + 1

@@ -11,7 +11,8 @@ use Rattle.java_syntax.specs.declared.statement.Stmt.TheFolds.{fold-roll-Stmt, f
 use Rattle.java_syntax.specs.declared.statement.Stmt.TheOpen.{Stmt-F}
 use Rattle.java_syntax.specs.declared.statement.Stmt.TheVariants as s
 use Rattle.java_syntax.specs.declared.statement.Stmt.TheVariants.{rolls-Empty, rolls-Block, rolls-Local, rolls-Assign, rolls-Step, rolls-Eval, rolls-Super, rolls-If, rolls-While, rolls-DoWhile, rolls-For, rolls-Return, rolls-Break, rolls-Continue, rolls-Throw, rolls-Try}
-use Rattle.java_syntax.specs.Height.{highest, expr_height, value_height, part_height, stmt_layer_height, catch_layer_height, stmt_height, catch_height}
+use Rattle.token_reading.specs.Height.{highest, type_height}
+use Rattle.java_syntax.specs.Height.{expr_height, value_height, part_height, stmt_layer_height, catch_layer_height, stmt_height, catch_height}
 
 pub height_empty : stmt_height s.Empty ≡ 1
 height_empty = ap stmt_height (sym rolls-Empty) ∙ fold-roll-Stmt ℕ ℕ stmt_layer_height catch_layer_height Stmt-F.Empty
@@ -19,7 +20,7 @@ height_empty = ap stmt_height (sym rolls-Empty) ∙ fold-roll-Stmt ℕ ℕ stmt_
 pub height_block : (all : List Stmt) → stmt_height (s.Block all) ≡ highest (map stmt_height all) + 1
 height_block all = ap stmt_height (sym (rolls-Block all)) ∙ fold-roll-Stmt ℕ ℕ stmt_layer_height catch_layer_height (Stmt-F.Block all)
 
-pub height_local : (t : LocalTree) → stmt_height (s.Local t) ≡ value_height t.value + 1
+pub height_local : (t : LocalTree) → stmt_height (s.Local t) ≡ max (type_height t.ty) (value_height t.value) + 1
 height_local t = ap stmt_height (sym (rolls-Local t)) ∙ fold-roll-Stmt ℕ ℕ stmt_layer_height catch_layer_height (Stmt-F.Local t)
 
 pub height_assign : (a : Expr) (op : AssignOp) (e : Expr) → stmt_height (s.Assign a op e) ≡ max (expr_height a) (expr_height e) + 1

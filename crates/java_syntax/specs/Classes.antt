@@ -1,5 +1,5 @@
 -- Which members and classes the tokens are (JLS 8).
-use Rattle.std.specs.Prelude.{◌≡◌, ℕ, zero, suc, List, [], ◌∷◌, Bool, true, false, Option, Some, None}
+use Rattle.std.specs.Prelude.{◌≡◌, ℕ, zero, suc, ◌≤◌, max, List, [], ◌∷◌, Bool, true, false, Option, Some, None}
 use Rattle.java_tokens.specs.declared.token.Keyword.{Keyword}
 use Rattle.java_tokens.specs.declared.token.Keyword.TheVariants as w
 use Rattle.java_tokens.specs.declared.token.Operator.TheVariants as o
@@ -12,13 +12,14 @@ use Rattle.java_syntax.specs.declared.class.Member.TheVariants as member
 use Rattle.java_syntax.specs.declared.class.MethodTree.{MethodTree}
 use Rattle.java_syntax.specs.declared.class.Modifier.{Modifier}
 use Rattle.java_syntax.specs.declared.class.Modifier.TheVariants as modifier
-use Rattle.java_syntax.specs.declared.class.ParamTree.{ParamTree}
+use Rattle.token_reading.specs.declared.name.ParamTree.{ParamTree}
 use Rattle.java_syntax.specs.declared.expression.Expr.{Expr}
-use Rattle.java_syntax.specs.declared.name.Ident.{Ident}
-use Rattle.java_syntax.specs.declared.name.TypeTree.{TypeTree}
+use Rattle.token_reading.specs.declared.name.Ident.{Ident}
+use Rattle.token_reading.specs.declared.name.TypeTree.{TypeTree}
 use Rattle.java_syntax.specs.declared.statement.Stmt.{Stmt}
-use Rattle.java_syntax.specs.Lexeme.{Lexeme, Then}
-use Rattle.java_syntax.specs.Types.{IsIdent, IsType}
+use Rattle.token_reading.specs.Lexeme.{Lexeme, Then}
+use Rattle.token_reading.specs.Types.{IsIdent, IsType, Params}
+use Rattle.token_reading.specs.Height.{type_height, params_height}
 use Rattle.java_syntax.specs.Exprs.{Within}
 use Rattle.java_syntax.specs.Stmts.{Initial, UnendedWithin, Stmts, StmtWithin}
 
@@ -36,21 +37,6 @@ modifier_word modifier.Final = w.Final
 abbrev pub Modifiers : List Modifier → List Lexeme → List Lexeme → Type 0
 Modifiers [] xs rest = xs ≡ rest
 Modifiers (m ∷ more) xs rest = (ys : List Lexeme) × Then (k.Word (modifier_word m)) xs ys × Modifiers more ys rest
-
--- a parameter (JLS 8.4.1)
-abbrev pub Param : ParamTree → List Lexeme → List Lexeme → Type 0
-Param t xs rest = (ys : List Lexeme) × IsType t.ty xs ys × IsIdent t.name ys rest
-
--- further parameters, and the closing parenthesis
-abbrev pub MoreParams : List ParamTree → List Lexeme → List Lexeme → Type 0
-MoreParams [] xs rest = Then (k.Op o.RightParen) xs rest
-MoreParams (t ∷ more) xs rest =
-    (ys : List Lexeme) × Then (k.Op o.Comma) xs ys × (zs : List Lexeme) × Param t ys zs × MoreParams more zs rest
-
--- the parameters behind the opening parenthesis
-abbrev pub Params : List ParamTree → List Lexeme → List Lexeme → Type 0
-Params [] xs rest = Then (k.Op o.RightParen) xs rest
-Params (t ∷ more) xs rest = (ys : List Lexeme) × Param t xs ys × MoreParams more ys rest
 
 -- further names
 abbrev pub MoreNames : List Ident → List Lexeme → List Lexeme → Type 0
@@ -70,7 +56,7 @@ Answer None xs rest = Then (k.Word w.Void) xs rest
 Answer (Some t) xs rest = IsType t xs rest
 
 -- ---- members. `Part` is of expressions, and `Body all xs rest` says that these statements and a closing brace are written
--- at the front of xs, and that the rest stands behind them.
+-- at the front of xs, and that the rest stands after them.
 
 module _ (Part : Expr → ℕ → List Lexeme → List Lexeme → Type 0) (Body : List Stmt → List Lexeme → List Lexeme → Type 0) where
   -- parameters, exceptions and body of a method or constructor
@@ -104,10 +90,23 @@ module _ (Part : Expr → ℕ → List Lexeme → List Lexeme → Type 0) (Body 
   MemberNode (member.Maker t) xs rest = IsMaker t xs rest
   MemberNode member.Empty xs rest = Then (k.Op o.Semicolon) xs rest
 
+-- the height of the type of a method's result, and 0 of `void`
+abbrev pub answer_height : Option TypeTree → ℕ
+answer_height None = 0
+answer_height (Some t) = type_height t
+
+-- the greatest height of the types before a member's body or value
+abbrev pub member_type_height : Member → ℕ
+member_type_height (member.Field t) = type_height t.ty
+member_type_height (member.Method t) = max (answer_height t.answer) (params_height t.params)
+member_type_height (member.Maker t) = params_height t.params
+member_type_height member.Empty = 0
+
 -- the member, of at most this height
 abbrev pub MemberWithin : ℕ → Member → List Lexeme → List Lexeme → Type 0
 MemberWithin zero t xs rest = ⊥
-MemberWithin (suc n) t xs rest = MemberNode (Within n) (Stmts (Within n) (UnendedWithin n) (StmtWithin n)) t xs rest
+MemberWithin (suc n) t xs rest =
+    MemberNode (Within n) (Stmts (Within n) (UnendedWithin n) (StmtWithin n)) t xs rest × (member_type_height t ≤ n)
 
 -- ---- classes
 

@@ -1,5 +1,5 @@
 -- Which expressions the tokens are (JLS 15).
-use Rattle.std.specs.Prelude.{◌≡◌, ℕ, zero, suc, ◌+◌, ◌≤◌, ◌&&◌, if◌then◌else◌, List, [], ◌∷◌, Bool, true, false}
+use Rattle.std.specs.Prelude.{◌≡◌, ℕ, zero, suc, ◌+◌, ◌≤◌, ◌&&◌, List, [], ◌∷◌, Bool, true, false}
 use Rattle.java_tokens.specs.declared.token.Keyword.{Keyword}
 use Rattle.java_tokens.specs.declared.token.Keyword.TheVariants as w
 use Rattle.java_tokens.specs.declared.token.Operator.{Operator}
@@ -12,8 +12,9 @@ use Rattle.java_syntax.specs.declared.operator.UnaryOp.{UnaryOp}
 use Rattle.java_syntax.specs.declared.operator.UnaryOp.TheVariants as unary
 use Rattle.java_syntax.specs.declared.expression.Expr.{Expr, out-Expr}
 use Rattle.java_syntax.specs.declared.expression.Expr.TheOpen.{Expr-F}
-use Rattle.java_syntax.specs.Lexeme.{Lexeme, lexeme, Then, is_operator, sees}
-use Rattle.java_syntax.specs.Types.{IsIdent, IsBase, IsType, Brackets, castable}
+use Rattle.token_reading.specs.Lexeme.{Lexeme, lexeme, Then, is_operator, sees}
+use Rattle.token_reading.specs.Types.{IsIdent, IsBase, IsType, Brackets, castable, past_brackets}
+use Rattle.token_reading.specs.Height.{type_height}
 
 -- one level of an expression
 abbrev pub Layer : Type 0
@@ -126,25 +127,18 @@ begins_type (k.Ident x) = true
 begins_type (k.Word s) = begins_type_keyword s
 begins_type _ = false
 
--- what stands behind pairs of brackets
-abbrev pub past_brackets : List Lexeme → List Lexeme
-past_brackets [] = []
-past_brackets (x ∷ []) = x ∷ []
-past_brackets (x ∷ y ∷ xs) =
-    if is_operator o.LeftBracket x.kind && is_operator o.RightBracket y.kind then past_brackets xs else x ∷ y ∷ xs
-
 -- a `)` and a token with which a cast's operand can begin
 abbrev pub closes_cast : List Lexeme → Bool
 closes_cast (x ∷ y ∷ xs) = is_operator o.RightParen x.kind && begins_plain y.kind
 closes_cast _ = false
 
--- Behind a `(`: a type, a `)` and a token with which the operand can begin make a cast.
+-- After a `(`: a type, a `)` and a token with which the operand can begin make a cast.
 abbrev pub casts : List Lexeme → Bool
 casts [] = false
 casts (x ∷ xs) = begins_type x.kind && closes_cast (past_brackets xs)
 
 -- ---- the grammar. `Part e l xs rest` says that the tree e, of level l or above, is written at the front of xs,
--- and that the rest stands behind it.
+-- and that the rest stands after it.
 
 -- `true` and `false`
 abbrev pub truth : Bool → Keyword
@@ -158,7 +152,7 @@ module _ (Part : Expr → ℕ → List Lexeme → List Lexeme → Type 0) where
   MoreArgs (a ∷ more) xs rest =
       (ys : List Lexeme) × Then (k.Op o.Comma) xs ys × (zs : List Lexeme) × Part a 1 ys zs × MoreArgs more zs rest
 
-  -- the arguments behind the opening parenthesis (JLS 15.12)
+  -- the arguments after the opening parenthesis (JLS 15.12)
   abbrev pub Args : List Expr → List Lexeme → List Lexeme → Type 0
   Args [] xs rest = Then (k.Op o.RightParen) xs rest
   Args (a ∷ more) xs rest = (ys : List Lexeme) × Part a 1 xs ys × MoreArgs more ys rest
@@ -187,7 +181,7 @@ module _ (Part : Expr → ℕ → List Lexeme → List Lexeme → Type 0) where
   Node (Expr-F.New at x given) xs rest =
       (ys : List Lexeme) × (xs ≡ lexeme at (k.Word w.New) ∷ ys) × (zs : List Lexeme) × IsIdent x ys zs
       × (us : List Lexeme) × Then (k.Op o.LeftParen) zs us × Args given us rest
-  -- An array creation (JLS 15.10.1). No `[` stands directly behind it (JLS 15.10.3).
+  -- An array creation (JLS 15.10.1). No `[` stands directly after it (JLS 15.10.3).
   Node (Expr-F.NewArray at base size dimensions) xs rest =
       (ys : List Lexeme) × (xs ≡ lexeme at (k.Word w.New) ∷ ys) × (zs : List Lexeme) × IsBase base ys zs
       × (us : List Lexeme) × Then (k.Op o.LeftBracket) zs us × (vs : List Lexeme) × Part size 1 us vs
@@ -217,8 +211,16 @@ module _ (Part : Expr → ℕ → List Lexeme → List Lexeme → Type 0) where
       (ys : List Lexeme) × Part c 2 xs ys × (zs : List Lexeme) × Then (k.Op o.Question) ys zs
       × (us : List Lexeme) × Part a 1 zs us × (vs : List Lexeme) × Then (k.Op o.Colon) us vs × Part b 1 vs rest
 
+-- the height of the type in a node, and 0 of none; the pairs of brackets after an array's size count as a type's do
+abbrev pub inner_type_height : Layer → ℕ
+inner_type_height (Expr-F.NewArray at base size dimensions) = dimensions
+inner_type_height (Expr-F.Cast at t a) = type_height t
+inner_type_height (Expr-F.InstanceOf a t) = type_height t
+inner_type_height _ = 0
+
 -- The expression, of at most this height and of this level or above, is written at the front of the first list, and
--- the second stands behind it.
+-- the second stands after it.
 unfoldable pub Within : ℕ → Expr → ℕ → List Lexeme → List Lexeme → Type 0
 Within zero e l xs rest = ⊥
-Within (suc n) e l xs rest = (l ≤ level (out-Expr e)) × Node (Within n) (out-Expr e) xs rest
+Within (suc n) e l xs rest =
+    (l ≤ level (out-Expr e)) × Node (Within n) (out-Expr e) xs rest × (inner_type_height (out-Expr e) ≤ n)

@@ -1,5 +1,8 @@
--- The height of a tree: the nodes on its longest path. Each node of `Expr` counts one.
-use Rattle.std.specs.Prelude.{ℕ, ◌+◌, max, List, [], ◌∷◌, Option, Some, None, map}
+-- The height of a tree: the nodes on its longest path. Each node of `Expr` counts one, and so does each pair of
+-- brackets of a type.
+use Rattle.std.specs.Prelude.{ℕ, ◌+◌, max, Option, Some, None, map}
+use Rattle.token_reading.specs.Height.{highest, type_height, params_height}
+use Rattle.java_syntax.specs.Classes.{answer_height}
 use Rattle.java_syntax.specs.declared.class.ClassTree.{ClassTree}
 use Rattle.java_syntax.specs.declared.class.FileTree.{FileTree}
 use Rattle.java_syntax.specs.declared.class.Member.{Member}
@@ -12,25 +15,20 @@ use Rattle.java_syntax.specs.declared.statement.Stmt.{Stmt}
 use Rattle.java_syntax.specs.declared.statement.Stmt.TheOpen.{Stmt-F}
 use Rattle.java_syntax.specs.declared.statement.Stmt.TheFolds.{fold-Stmt, fold-CatchTree}
 
--- the greatest of some heights, and 0 of none
-abbrev pub highest : List ℕ → ℕ
-highest [] = 0
-highest (h ∷ hs) = max h (highest hs)
-
 -- one node, with the height of each part in its place; a leaf has height 1
 abbrev pub layer_height : Expr-F ℕ → ℕ
 layer_height (Expr-F.Call x given) = highest given + 1
 layer_height (Expr-F.Paren at a) = a + 1
 layer_height (Expr-F.Super at x given) = highest given + 1
 layer_height (Expr-F.New at x given) = highest given + 1
-layer_height (Expr-F.NewArray at base size dimensions) = size + 1
+layer_height (Expr-F.NewArray at base size dimensions) = max dimensions size + 1
 layer_height (Expr-F.Field a x) = a + 1
 layer_height (Expr-F.Method a x given) = max a (highest given) + 1
 layer_height (Expr-F.Element a i) = max a i + 1
 layer_height (Expr-F.Unary at op a) = a + 1
-layer_height (Expr-F.Cast at t a) = a + 1
+layer_height (Expr-F.Cast at t a) = max (type_height t) a + 1
 layer_height (Expr-F.Binary op a b) = max a b + 1
-layer_height (Expr-F.InstanceOf a t) = a + 1
+layer_height (Expr-F.InstanceOf a t) = max (type_height t) a + 1
 layer_height (Expr-F.Conditional c a b) = max c (max a b) + 1
 layer_height _ = 1
 
@@ -53,7 +51,7 @@ part_height (Some h) = h
 -- header of a `for` too.
 abbrev pub stmt_layer_height : Stmt-F ℕ ℕ → ℕ
 stmt_layer_height (Stmt-F.Block all) = highest all + 1
-stmt_layer_height (Stmt-F.Local t) = value_height t.value + 1
+stmt_layer_height (Stmt-F.Local t) = max (type_height t.ty) (value_height t.value) + 1
 stmt_layer_height (Stmt-F.Assign a op e) = max (expr_height a) (expr_height e) + 1
 stmt_layer_height (Stmt-F.Step op side a) = expr_height a + 1
 stmt_layer_height (Stmt-F.Eval e) = expr_height e + 1
@@ -81,9 +79,9 @@ catch_height = fold-CatchTree ℕ ℕ stmt_layer_height catch_layer_height
 
 -- A member is one node, the braces of its body included.
 abbrev pub member_height : Member → ℕ
-member_height (member.Field t) = value_height t.value + 1
-member_height (member.Method t) = highest (map stmt_height t.body) + 1
-member_height (member.Maker t) = highest (map stmt_height t.body) + 1
+member_height (member.Field t) = max (type_height t.ty) (value_height t.value) + 1
+member_height (member.Method t) = max (answer_height t.answer) (max (params_height t.params) (highest (map stmt_height t.body))) + 1
+member_height (member.Maker t) = max (params_height t.params) (highest (map stmt_height t.body)) + 1
 member_height member.Empty = 1
 
 abbrev pub class_height : ClassTree → ℕ

@@ -1,5 +1,3 @@
-pub mod Lexeme
-pub mod Types
 pub mod Exprs
 pub mod Stmts
 pub mod Classes

@@ -1,11 +1,11 @@
 -- Which tokens a file is (JLS 7.3).
-use Rattle.std.specs.Prelude.{◌≡◌, ℕ, List, [], ◌∷◌, map}
+use Rattle.std.specs.Prelude.{◌≡◌, ℕ, List, [], ◌∷◌}
 use Rattle.java_tokens.specs.declared.token.Token.{Token}
 use Rattle.java_tokens.specs.declared.token.TokenKind.TheVariants as k
 use Rattle.java_syntax.specs.declared.class.ClassTree.{ClassTree}
 use Rattle.java_syntax.specs.declared.class.FileTree.{FileTree}
-use Rattle.java_syntax.specs.declared.place.TokenPlace.{TokenPlace}
-use Rattle.java_syntax.specs.Lexeme.{Lexeme, numbered, Then}
+use Rattle.token_reading.specs.Lexeme.{Lexeme, numbered, Then}
+use Rattle.token_reading.specs.Places.{places_of}
 use Rattle.java_syntax.specs.Classes.{ClassWithin}
 
 -- classes of at most this height, and the end
@@ -16,14 +16,6 @@ ClassesWithin n (t ∷ more) xs rest = (ys : List Lexeme) × ClassWithin n t xs 
 -- The classes of a file, of at most this height, are written on the whole list.
 abbrev pub FileWithin : ℕ → List ClassTree → List Lexeme → Type 0
 FileWithin n all xs = ClassesWithin n all xs []
-
--- where a token begins
-abbrev pub place_of : Token → TokenPlace
-place_of t = record { line = t.line; column = t.column }
-
--- the same of each token, in order
-abbrev pub places_of : List Token → List TokenPlace
-places_of = map place_of
 
 -- The tree, of at most this height, spells the tokens.
 abbrev pub SpellsWithin : ℕ → FileTree → List Token → Type 0

@@ -1,5 +1,5 @@
 -- Which statements the tokens are (JLS 14).
-use Rattle.std.specs.Prelude.{◌≡◌, ℕ, zero, suc, List, [], ◌∷◌, Bool, true, false, Option, Some, None, ◌⊎◌}
+use Rattle.std.specs.Prelude.{◌≡◌, ℕ, zero, suc, ◌≤◌, List, [], ◌∷◌, Bool, true, false, Option, Some, None, ◌⊎◌}
 use Rattle.java_tokens.specs.declared.token.Keyword.TheVariants as w
 use Rattle.java_tokens.specs.declared.token.Operator.{Operator}
 use Rattle.java_tokens.specs.declared.token.Operator.TheVariants as o
@@ -15,8 +15,9 @@ use Rattle.java_syntax.specs.declared.statement.CatchTree.{CatchTree, out-CatchT
 use Rattle.java_syntax.specs.declared.statement.LocalTree.{LocalTree}
 use Rattle.java_syntax.specs.declared.statement.Stmt.{Stmt, out-Stmt}
 use Rattle.java_syntax.specs.declared.statement.Stmt.TheOpen.{Stmt-F}
-use Rattle.java_syntax.specs.Lexeme.{Lexeme, lexeme, Then, sees_word}
-use Rattle.java_syntax.specs.Types.{IsIdent, IsType}
+use Rattle.token_reading.specs.Lexeme.{Lexeme, lexeme, Then, sees_word}
+use Rattle.token_reading.specs.Types.{IsIdent, IsType}
+use Rattle.token_reading.specs.Height.{type_height}
 use Rattle.java_syntax.specs.Exprs.{Args, Within}
 
 -- one level of a statement
@@ -57,7 +58,7 @@ abbrev pub is_block : StmtLayer → Bool
 is_block (Stmt-F.Block all) = true
 is_block _ = false
 
--- A declaration is no part of an `if`, a loop or the like: it stands directly in a block (JLS 14.4.2).
+-- A declaration isn't a part of an `if`, a loop or the like: it stands directly in a block (JLS 14.4.2).
 abbrev pub MayStand : Bool → StmtLayer → Type 0
 MayStand in_block (Stmt-F.Local t) = in_block ≡ true
 MayStand in_block _ = Unit {0}
@@ -68,7 +69,7 @@ handles [] None = false
 handles _ _ = true
 
 -- ---- declarations and simple statements, without their semicolons. `Part e l xs rest` says that the expression e, of
--- level l or above, is written at the front of xs, and that the rest stands behind it.
+-- level l or above, is written at the front of xs, and that the rest stands after it.
 
 module _ (Part : Expr → ℕ → List Lexeme → List Lexeme → Type 0) where
   -- an initial value with its `=`, or nothing
@@ -94,10 +95,15 @@ module _ (Part : Expr → ℕ → List Lexeme → List Lexeme → Type 0) where
   Unended (Stmt-F.Eval e) xs rest = Part e 1 xs rest
   Unended _ xs rest = ⊥
 
+-- the height of the type in a statement, and 0 of none
+abbrev pub local_type_height : StmtLayer → ℕ
+local_type_height (Stmt-F.Local t) = type_height t.ty
+local_type_height _ = 0
+
 -- such a statement, of at most this height
 unfoldable pub UnendedWithin : ℕ → Stmt → List Lexeme → List Lexeme → Type 0
 UnendedWithin zero s xs rest = ⊥
-UnendedWithin (suc n) s xs rest = Unended (Within n) (out-Stmt s) xs rest
+UnendedWithin (suc n) s xs rest = Unended (Within n) (out-Stmt s) xs rest × (local_type_height (out-Stmt s) ≤ n)
 
 -- ---- the header of a `for` (JLS 14.14.1). `Header s xs rest` says that the declaration or simple statement s is written
 -- without its semicolon.
@@ -128,7 +134,7 @@ module _ (Header : Stmt → List Lexeme → List Lexeme → Type 0) where
   Start all xs rest = Declares all xs rest ⊎ Simples o.Semicolon all xs rest
 
 -- ---- the grammar. `Inner in_block s xs rest` says that the statement s is written at the front of xs, directly in a block
--- or not, and that the rest stands behind it.
+-- or not, and that the rest stands after it.
 
 module _ (Part : Expr → ℕ → List Lexeme → List Lexeme → Type 0) (Header : Stmt → List Lexeme → List Lexeme → Type 0)
     (Inner : Bool → Stmt → List Lexeme → List Lexeme → Type 0) where
@@ -163,7 +169,7 @@ module _ (Part : Expr → ℕ → List Lexeme → List Lexeme → Type 0) (Heade
       × (us : List Lexeme) × IsIdent (out-CatchTree c).class zs us × (vs : List Lexeme) × IsIdent (out-CatchTree c).name us vs
       × (ws : List Lexeme) × Then (k.Op o.RightParen) vs ws × IsBlock (out-CatchTree c).body ws rest
 
-  -- the catch clauses behind the block of a `try`: all that stand there
+  -- the catch clauses after the block of a `try`: all that stand there
   abbrev pub Catches : List CatchTree → List Lexeme → List Lexeme → Type 0
   Catches [] xs rest = (xs ≡ rest) × (sees_word w.Catch rest ≡ false)
   Catches (c ∷ more) xs rest = (ys : List Lexeme) × Catch c xs ys × Catches more ys rest
@@ -204,8 +210,9 @@ module _ (Part : Expr → ℕ → List Lexeme → List Lexeme → Type 0) (Heade
   StmtNode f xs rest = (ys : List Lexeme) × Unended Part f xs ys × Then (k.Op o.Semicolon) ys rest
 
 -- The statement, of at most this height, is written at the front of the first list, directly in a block or not, and the
--- second stands behind it.
+-- second stands after it.
 unfoldable pub StmtWithin : ℕ → Bool → Stmt → List Lexeme → List Lexeme → Type 0
 StmtWithin zero in_block s xs rest = ⊥
 StmtWithin (suc n) in_block s xs rest =
     MayStand in_block (out-Stmt s) × StmtNode (Within n) (UnendedWithin n) (StmtWithin n) (out-Stmt s) xs rest
+    × (local_type_height (out-Stmt s) ≤ n)

@@ -1,8 +1,7 @@
 use crate::expression::Expr;
-use crate::name::{Ident, TypeTree};
-use crate::place::TokenPlace;
 use crate::statement::Stmt;
 use sqlite_items::Items;
+use token_reading::{Ident, ParamTree, TokenPlace, TypeTree};
 
 /// A source file: its classes in order (JLS 7.3).
 #[derive(Drop)]
@@ -76,11 +75,4 @@ pub struct MakerTree {
     pub params: Items<ParamTree>,
     pub throws: Items<Ident>,
     pub body: Items<Stmt>,
-}
-
-/// A parameter of a method or constructor (JLS 8.4.1).
-#[derive(Drop)]
-pub struct ParamTree {
-    pub ty: TypeTree,
-    pub name: Ident,
 }

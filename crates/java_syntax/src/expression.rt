@@ -1,7 +1,7 @@
-use crate::name::{BaseType, Ident, TypeTree};
 use crate::operator::{BinaryOp, UnaryOp};
 use java_tokens::Name;
 use sqlite_items::{Boxed, Items};
+use token_reading::{BaseType, Ident, TypeTree};
 
 /// An expression (JLS 15). A number in front is that of the first token, where no part begins with it.
 #[derive(Drop)]
@@ -20,7 +20,7 @@ pub enum Expr {
     Super(u32, Ident, Items<Expr>),
     /// `new C(a, b)`
     New(u32, Ident, Items<Expr>),
-    /// `new T[size][][]`: the base, the size, and how many pairs of brackets stand behind it.
+    /// `new T[size][][]`: the base, the size, and how many pairs of brackets stand after it.
     NewArray(u32, BaseType, Boxed<Expr>, u32),
     /// `o.f`
     Field(Boxed<Expr>, Ident),

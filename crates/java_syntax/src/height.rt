@@ -1,15 +1,18 @@
 ghost use Rattle.std.specs.Prelude.{◌≡◌, ◌<◌, ◌^◌, map, option_map};
-ghost use Rattle.java_syntax.specs.Height.{highest, expr_height, value_height, part_height, stmt_height, catch_height, member_height, class_height, file_height};
+ghost use Rattle.token_reading.specs.Height.{highest, params_height};
+ghost use Rattle.java_syntax.specs.Classes.{answer_height};
+ghost use Rattle.java_syntax.specs.Height.{expr_height, value_height, part_height, stmt_height, catch_height, member_height, class_height, file_height};
 
 use crate::class::{ClassTree, FileTree, Member};
 use crate::expression::Expr;
 use crate::statement::{CatchTree, Stmt};
 use sqlite_items::Boxed;
+use token_reading::{ParamTree, TypeTree};
 
 impl FileTree {
     /// How many nodes the longest path through the file has. A class, a member, a statement, a part in parentheses and
-    /// each application of an operator is one node, and a name or a literal is one; types, modifiers, parameters and
-    /// catch clauses are none. The height of a file without classes is 0.
+    /// each application of an operator is one node, a name or a literal is one, and so is each pair of brackets of a
+    /// type; base types, modifiers, parameters and catch clauses are none. The height of a file without classes is 0.
     pub fn height(&self) -> u32
         requires fits { file_height self.now < 2 ^ 32 }
         ensures { result ≡ file_height self.now }
@@ -41,12 +44,40 @@ impl Member {
         ensures { result ≡ member_height self.now }
     {
         match self {
-            Member::Field(field) => value_height(&field.value) + 1,
-            Member::Method(method) => highest_statement(method.body.as_slice()) + 1,
-            Member::Maker(maker) => highest_statement(maker.body.as_slice()) + 1,
+            Member::Field(field) => field.ty.height().max(value_height(&field.value)) + 1,
+            Member::Method(method) => {
+                let height = highest_parameter(method.params.as_slice());
+                let height = height.max(highest_statement(method.body.as_slice()));
+                answer_height(&method.answer).max(height) + 1
+            }
+            Member::Maker(maker) => {
+                let height = highest_parameter(maker.params.as_slice());
+                height.max(highest_statement(maker.body.as_slice())) + 1
+            }
             Member::Empty => 1,
         }
     }
+}
+
+/// The height of the type of a method's result, and 0 of `void`.
+fn answer_height(answer: &Option<TypeTree>) -> u32
+    ensures { result ≡ answer_height answer.now }
+{
+    match answer {
+        Some(ty) => ty.height(),
+        None => 0,
+    }
+}
+
+/// The greatest height of the types of some parameters, and 0 of none.
+fn highest_parameter(params: &[ParamTree]) -> u32
+    ensures { result ≡ params_height params.now }
+{
+    let mut height = 0;
+    for param in params {
+        height = height.max(param.ty.height());
+    }
+    height
 }
 
 impl Stmt {
@@ -58,7 +89,7 @@ impl Stmt {
     {
         match self {
             Stmt::Block(all) => highest_statement(all.as_slice()) + 1,
-            Stmt::Local(local) => value_height(&local.value) + 1,
+            Stmt::Local(local) => local.ty.height().max(value_height(&local.value)) + 1,
             Stmt::Assign(target, _, value) => target.height().max(value.height()) + 1,
             Stmt::Step(_, _, part) => part.height() + 1,
             Stmt::Eval(part) => part.height() + 1,
@@ -137,12 +168,17 @@ impl Expr {
             Expr::Call(_, given) | Expr::Super(_, _, given) | Expr::New(_, _, given) => {
                 highest_expression(given.as_slice()) + 1
             }
-            Expr::Paren(_, part)
-            | Expr::NewArray(_, _, part, _)
-            | Expr::Field(part, _)
-            | Expr::Unary(_, _, part)
-            | Expr::Cast(_, _, part)
-            | Expr::InstanceOf(part, _) => part.get().height() + 1,
+            Expr::Paren(_, part) | Expr::Field(part, _) | Expr::Unary(_, _, part) => {
+                part.get().height() + 1
+            }
+            Expr::NewArray(_, _, size, dimensions) => {
+                let size = size.get().height();
+                size.max(*dimensions) + 1
+            }
+            Expr::Cast(_, ty, part) | Expr::InstanceOf(part, ty) => {
+                let part = part.get().height();
+                part.max(ty.height()) + 1
+            }
             Expr::Method(object, _, given) => {
                 let object = object.get().height();
                 object.max(highest_expression(given.as_slice())) + 1

@@ -5,25 +5,19 @@
 //! begins with a token of its own. The tree of a file has the places of its tokens, so that such a number gives a line
 //! and a column. `specs/Spells` says which tokens a tree is.
 //!
-//! Read `name`, `operator`, `expression`, `statement`, `place`, `class`, `height`; and `fault`,
-//! which names a broken rule.
+//! Identifiers, types, parameters, the places of tokens and the faults of the checks are those of token_reading.
+//!
+//! Read `operator`, `expression`, `statement`, `class`, then `height`.
 #![tactic(auto)]
 
 mod class;
 mod expression;
-mod fault;
 mod height;
-mod name;
 mod operator;
-mod place;
 mod statement;
 
-pub use class::{
-    ClassTree, FieldTree, FileTree, MakerTree, Member, MethodTree, Modifier, Mods, ParamTree,
-};
+pub use class::{ClassTree, FieldTree, FileTree, MakerTree, Member, MethodTree, Modifier, Mods};
 pub use expression::Expr;
-pub use fault::{CheckError, Fault};
-pub use name::{BaseType, Ident, TypeTree};
 pub use operator::{AssignOp, BinaryOp, Fix, StepOp, UnaryOp};
-pub use place::TokenPlace;
 pub use statement::{CatchTree, LocalTree, Stmt};
+pub use token_reading::{BaseType, CheckError, Fault, Ident, ParamTree, TokenPlace, TypeTree};

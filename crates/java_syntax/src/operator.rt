@@ -55,7 +55,7 @@ pub enum StepOp {
     Decrement,
 }
 
-/// Where such a sign stands: before or behind its operand.
+/// Where such a sign stands: before or after its operand.
 #[derive(Clone, Copy, Debug, PartialEq, Eq)]
 pub enum Fix {
     Before,

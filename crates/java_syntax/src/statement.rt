@@ -1,7 +1,7 @@
 use crate::expression::Expr;
-use crate::name::{Ident, TypeTree};
 use crate::operator::{AssignOp, Fix, StepOp};
 use sqlite_items::{Boxed, Items};
+use token_reading::{Ident, TypeTree};
 
 /// A local variable: `T x = e` or `T x` (JLS 14.4).
 #[derive(Drop)]

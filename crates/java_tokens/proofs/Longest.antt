@@ -149,7 +149,7 @@ quoted-lexeme Comment text is lex = absurd (cc)
 quoted-lexeme (Token k) text is lex = quoted-kind k text is lex
 quoted-lexeme (Malformed f) text is lex = quoted-flaw f text is lex
 
--- behind characters that are spelled stands an ending, where a string or the front of one does
+-- after characters that are spelled stands an ending, where a string or the front of one does
 ending-behind : (lexeme : Lexeme) (characters body us : List ℕ) → SpellsCharacters characters body → IsLexeme lexeme (34 ∷ (body ++ us)) → Ending (strip us false)
 ending-behind lexeme characters body us spelled lex =
     let text = 34 ∷ (body ++ us) in
@@ -160,7 +160,7 @@ ending-behind lexeme characters body us spelled lex =
     ∙ strip-spelled quoted.characters quoted.body quoted.last quoted.spelled ∙ strip-ending quoted.last quoted.ending in
     subst Ending (sym same) quoted.ending
 
--- nothing stands behind an ending
+-- nothing stands after an ending
 nothing_more-quote : (more : List ℕ) → Ending (34 ∷ more) → more ≡ []
 nothing_more-quote more (over is) = absurd (cc)
 nothing_more-quote more (closed is) = cc
@@ -186,7 +186,7 @@ strip-line_end c more line_end =
     cond-false _ _ _ no_backslash ∙ cond-false _ _ _ not_plain
 
 module _ (characters body : List ℕ) (spelled : SpellsCharacters characters body) where
-  -- a text of a string, behind its first characters
+  -- a text of a string, after its first characters
   regroup : (last more : List ℕ) → (34 ∷ (body ++ last)) ++ more ≡ 34 ∷ (body ++ (last ++ more))
   regroup last more = ap (λ b. 34 ∷ b) (append_assoc body last more)
 

@@ -107,7 +107,7 @@ first_end body body' more no_end same =
           let here = sym (ap (λ i. get_or (body' ++ 42 ∷ 47 ∷ []) i 0) place) ∙ slash in
           omega (arith, seam, here)
 
--- none stands behind `*/`
+-- none stands after `*/`
 open_end : (body more : List ℕ) → ((i : ℕ) → get_or (body ++ 42 ∷ 47 ∷ more) i 0 ≡ 42 → get_or (body ++ 42 ∷ 47 ∷ more) (i + 1) 0 ≢ 47) → ⊥
 open_end body more no_end = no_end (length body) (get_or-append_seam body 42 (47 ∷ more) 0) (get_or-append-add body (42 ∷ 47 ∷ more) 1 0)
 

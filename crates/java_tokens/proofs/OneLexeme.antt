@@ -29,7 +29,7 @@ abbrev operator_or_bad : Option Operator → Lexeme
 operator_or_bad None = Malformed flaw.Character
 operator_or_bad (Some o) = Token (kind.Op o)
 
--- by what stands behind the characters, and which these are
+-- by what stands after the characters, and which these are
 abbrev string_of : List ℕ → List ℕ → Lexeme
 string_of [] characters = Malformed flaw.OpenString
 string_of (c ∷ []) characters = cond (c == 34) (Token (kind.Text characters)) (Malformed flaw.OpenString)

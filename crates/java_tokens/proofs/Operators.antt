@@ -1,4 +1,4 @@
--- The table of separators and operators has each of them, and no longer one behind a shorter one.
+-- The table of separators and operators has each of them, and no longer one after a shorter one.
 use Rattle.std.proofs.Common.{◌≡◌, inl, inr, ℕ, zero, suc, ◌<◌, ◌≤◌, Bool, true, false, ◌&&◌, nat_le, List, [], ◌∷◌, length, get_or, bytes_eq, refl, sym, ap, ◌∙◌, subst, arith}
 use Rattle.std.specs.List.{list_all, position_or_len}
 use Rattle.std.proofs.lemmas.Bool.{and_parts, leb-true, cases_lt}
@@ -25,7 +25,7 @@ index_of-below : (o : Operator) → index_of o < 50
 index_of-below LeftParen = omega arith
 index_of-below o = omega arith
 
--- none behind is longer
+-- none after is longer
 abbrev falling : List Operator → Bool
 falling [] = true
 falling (o ∷ os) = list_all (λ p. nat_le (size p) (size o)) os && falling os

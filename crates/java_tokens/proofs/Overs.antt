@@ -24,7 +24,7 @@ module _ (text rest : List ℕ) (c : ℕ) (longest : IsLongest text (c ∷ rest)
   regroup : (last : List ℕ) → text ≡ 34 ∷ (body ++ last) → text ++ c ∷ [] ≡ 34 ∷ (body ++ (last ++ c ∷ []))
   regroup last is = ap (λ t. t ++ c ∷ []) is ∙ ap (λ b. 34 ∷ b) (append_assoc body last (c ∷ []))
 
-  -- behind a backslash an escape goes on, or is a bad one
+  -- after a backslash an escape goes on, or is a bad one
   behind-backslash : text ≡ 34 ∷ (body ++ 92 ∷ []) → ⊥
   behind-backslash is = by_escape (escaped c) refl where
     by_escape : (o : Option ℕ) → escaped c ≡ o → ⊥
@@ -108,7 +108,7 @@ no_end-front front c none i star slash =
       | inr past ↦ let zero = get_or_past front (i + 1) 0 past in absurd (omega arith)
     ]
 
--- with one more, which isn't `/` behind `*`
+-- with one more, which isn't `/` after `*`
 no_end-push : (body : List ℕ) (c : ℕ) → NoEnd body → (get_or body (length body - 1) 0 ≡ 42 → c ≡ 47 → ⊥) → NoEnd (body ++ c ∷ [])
 no_end-push body c none apart i star slash =
     elim (cases_lt (i + 1) (length body)) [

@@ -47,7 +47,7 @@ token-few front text lexeme.Comment = omega arith
 token-few front text (lexeme.Token kind) = omega arith
 token-few front text (lexeme.Malformed flaw) = omega arith
 
--- what was scanned stands behind what is read
+-- what was scanned stands after what is read
 module _ (xs : List ℕ) (at n : ℕ) (what : Lexeme) (within : at ≤ length xs) (found : IsScanned (between at (length xs) xs) what n) where
   text : List ℕ
   text = take n (drop at xs)

@@ -1,4 +1,4 @@
--- A list is the run of elements in front that pass a test, and what stands behind them.
+-- A list is the run of elements in front that pass a test, and what stands after them.
 use Rattle.std.proofs.Common.{◌≡◌, ℕ, ◌+◌, suc, Bool, true, false, List, [], ◌∷◌, length, take, drop, refl, subst, arith}
 use Rattle.std.specs.List.{list_all, prefix_len}
 use Rattle.std.proofs.lemmas.Bool.{and_parts, and_from, cond_both}
@@ -13,7 +13,7 @@ list_all-run p (x ∷ xs) =
     subst (λ n. list_all p (take n (x ∷ xs)) ≡ true) one_more (and_from (p x) _ passes (list_all-run p xs)))
     (λ _. refl)
 
--- what stands behind the run fails
+-- what stands after the run fails
 pub first_passes-behind : (p : ℕ → Bool) (xs : List ℕ) → first_passes p (drop (prefix_len p xs) xs) ≡ false
 first_passes-behind p [] = refl
 first_passes-behind p (x ∷ xs) =

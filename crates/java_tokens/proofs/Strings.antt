@@ -15,7 +15,7 @@ abbrev meant_by : Option ℕ → List ℕ → List ℕ
 meant_by None rest = []
 meant_by (Some c) rest = c ∷ rest
 
--- what stands behind the characters of a string, which may begin behind a backslash
+-- what stands after the characters of a string, which may begin after a backslash
 abbrev pub strip : List ℕ → Bool → List ℕ
 strip [] true = 92 ∷ []
 strip [] false = []
@@ -55,7 +55,7 @@ meant-character : (c : ℕ) (first u : List ℕ) → SpellsCharacter c first →
 meant-character c first u (inl plain) = ap (λ f. meant (f ++ u) false) plain.0 ∙ meant-plain c u plain.1
 meant-character c first u (inr escape) = ap (λ f. meant (f ++ u) false) escape.1 ∙ meant-escape escape.0 u c escape.2
 
--- behind characters that are spelled
+-- after characters that are spelled
 pub strip-spelled : (cs body u : List ℕ) → SpellsCharacters cs body → strip (body ++ u) false ≡ strip u false
 strip-spelled [] body u spelled = ap (λ b. strip (b ++ u) false) spelled
 strip-spelled (c ∷ cs) body u spelled =
@@ -74,7 +74,7 @@ spelled-push [] body c last spelled more = (last, [], ap (λ b. b ++ last) spell
 spelled-push (d ∷ cs) body c last spelled more =
     (spelled.0, spelled.1 ++ last, ap (λ b. b ++ last) spelled.2 ∙ append_assoc spelled.0 spelled.1 last, spelled.3, spelled-push cs spelled.1 c last spelled.4 more)
 
--- what can stand behind the characters of a string, where a text ends with them
+-- what can stand after the characters of a string, where a text ends with them
 pub data Ending (u : List ℕ) : Type 0 where
   over : u ≡ [] → Ending u
   closed : u ≡ 34 ∷ [] → Ending u

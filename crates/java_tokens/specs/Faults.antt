@@ -26,7 +26,7 @@ text_of (piece ∷ pieces) = piece.text ++ text_of pieces
 abbrev pub before_escape : List ℕ → List ℕ
 before_escape text = take (length text - 2) text
 
--- the error that a malformed text behind these characters is
+-- the error that a malformed text after these characters is
 abbrev pub error_of : Flaw → List ℕ → List ℕ → TokenError
 error_of flaw.Character front text = BadChar (offset front)
 error_of flaw.Number front text = BadNumber (offset front)
@@ -42,13 +42,13 @@ met_at flaw.Escape front text = offset (front ++ before_escape text)
 met_at flaw.OpenString front text = offset (front ++ text)
 met_at flaw.OpenComment front text = offset (front ++ text)
 
--- what isn't closed is a fault where the line, or the file, ends behind it
+-- what isn't closed is a fault where the line, or the file, ends after it
 abbrev pub IsOver : Flaw → List ℕ → List ℕ → Type 0
 IsOver flaw.OpenString rest left = IsTrue (first_passes is_line_end rest) ⊎ ((rest ≡ []) × (left ≡ []))
 IsOver flaw.OpenComment rest left = (rest ≡ []) × (left ≡ [])
 IsOver _ rest left = Unit {0}
 
--- a malformed text stands behind pieces
+-- a malformed text stands after pieces
 pub record MeetsFlaw (bytes : List ℕ) (error : TokenError) (place : ℕ) : Type 0 where
   pub characters : List ℕ
   pub left : List ℕ
@@ -64,7 +64,7 @@ pub record MeetsFlaw (bytes : List ℕ) (error : TokenError) (place : ℕ) : Typ
   pub named : error ≡ error_of flaw (text_of front) text
   pub met : place ≡ met_at flaw (text_of front) text
 
--- a byte with which no character begins stands behind the characters
+-- a byte with which no character begins stands after the characters
 pub record MeetsBadByte (bytes : List ℕ) (error : TokenError) (place : ℕ) : Type 0 where
   pub characters : List ℕ
   pub left : List ℕ

@@ -16,7 +16,7 @@ pub record IsWhite (text : List ℕ) : Type 0 where
   pub alone : text ≡ character ∷ []
   pub white : IsTrue (is_white character)
 
--- `//`, and characters of the line behind it (JLS 3.7)
+-- `//`, and characters of the line after it (JLS 3.7)
 pub record IsLineComment (text : List ℕ) : Type 0 where
   pub body : List ℕ
   pub is : text ≡ 47 ∷ 47 ∷ body
@@ -28,7 +28,7 @@ pub record IsOpenComment (text : List ℕ) : Type 0 where
   pub is : text ≡ 47 ∷ 42 ∷ body
   pub no_end : (i : ℕ) → slice_index body i ≡ 42 → slice_index body (i + 1) ≢ 47
 
--- such a text, and the first `*/` behind it
+-- such a text, and the first `*/` after it
 pub record IsBlockComment (text : List ℕ) : Type 0 where
   pub front : List ℕ
   pub is : text ≡ front ++ 42 ∷ 47 ∷ []
@@ -50,7 +50,7 @@ pub record IsBadNumber (text : List ℕ) : Type 0 where
   pub parts : IsTrue (list_all is_identifier_part text)
   pub no_number : IsNumber text → ⊥
 
--- `"` and characters of a string, with no `"` behind them; a backslash may stand last
+-- `"` and characters of a string, with no `"` after them; a backslash may stand last
 pub record IsOpenString (text : List ℕ) : Type 0 where
   pub characters : List ℕ
   pub body : List ℕ

@@ -7,17 +7,17 @@ use Rattle.java_tokens.specs.Characters.{is_in_line}
 abbrev pub offset : List ℕ → ℕ
 offset front = length (encode_utf8_all front)
 
--- a character ends a line that hasn't ended: a carriage return, or a line feed but for one directly behind a carriage
+-- a character ends a line that hasn't ended: a carriage return, or a line feed but for one directly after a carriage
 -- return, with which it is one end (JLS 3.4)
 abbrev pub ends_line : Bool → ℕ → Bool
 ends_line behind_return c = c == 13 || (c == 10 && not behind_return)
 
--- how many lines these characters end, behind the character before
+-- how many lines these characters end, after the character before
 abbrev pub lines_ended : ℕ → List ℕ → ℕ
 lines_ended before [] = 0
 lines_ended before (c ∷ cs) = (if ends_line (before == 13) c then 1 else 0) + lines_ended c cs
 
--- the line of what stands behind these characters of a file, from 1
+-- the line of what stands after these characters of a file, from 1
 abbrev pub line : List ℕ → ℕ
 line front = 1 + lines_ended 0 front
 

@@ -32,7 +32,7 @@ pub record IsScanned (xs : List ℕ) (what : Lexeme) (len : ℕ) : Type 0 where
   pub is : IsLexeme what (take len xs)
   pub longest : IsLongest (take len xs) (drop len xs)
 
--- the place of what stands behind these characters
+-- the place of what stands after these characters
 pub record IsPlace (front : List ℕ) (place : Place) : Type 0 where
   pub offset_is : place.offset ≡ offset front
   pub line_is : place.line ≡ line front
@@ -59,7 +59,7 @@ IsOpen flaw.OpenString = Unit {0}
 IsOpen flaw.OpenComment = Unit {0}
 IsOpen _ = ⊥
 
--- a text that is open where characters end, behind which a bad byte stands; and any other that is malformed
+-- a text that is open where characters end, after which a bad byte stands; and any other that is malformed
 pub record IsCutOff (flaw : Flaw) (characters : List ℕ) (whole : Bool) (to : ℕ) (error : TokenError) : Type 0 where
   pub is_open : IsOpen flaw
   pub end : to ≡ length characters
@@ -80,7 +80,7 @@ pub record HasTokens (characters : List ℕ) (whole : Bool) (tokens : List Token
   pub reached : ArePieces pieces characters []
   pub are : tokens ≡ tokens_of [] pieces ++ token_at characters [] End ∷ []
 
--- a malformed text stands behind pieces
+-- a malformed text stands after pieces
 pub record StopsInFlaw (characters : List ℕ) (whole : Bool) (error : TokenError) : Type 0 where
   pub front : List Piece
   pub flaw : Flaw
@@ -92,7 +92,7 @@ pub record StopsInFlaw (characters : List ℕ) (whole : Bool) (error : TokenErro
   pub over : (left : List ℕ) → (whole ≡ true → left ≡ []) → IsOver flaw rest left
   pub named : error ≡ error_of flaw (text_of front) text
 
--- all is read, or open to the end, and a bad byte stands behind
+-- all is read, or open to the end, and a bad byte stands after
 pub record StopsInBadByte (characters : List ℕ) (whole : Bool) (error : TokenError) : Type 0 where
   pub front : List Piece
   pub rest : List ℕ

@@ -142,7 +142,7 @@ SpellsCharacter c text =
     ((text ≡ c ∷ []) × (is_plain c ≡ true))
     ⊎ ((letter : ℕ) × (text ≡ 92 ∷ letter ∷ []) × (escaped letter ≡ Some c))
 
--- the characters of a string are spelled one behind another
+-- the characters of a string are spelled one after another
 abbrev pub SpellsCharacters : List ℕ → List ℕ → Type 0
 SpellsCharacters [] text = text ≡ []
 SpellsCharacters (c ∷ cs) text = (first rest : List ℕ) × (text ≡ first ++ rest) × SpellsCharacter c first × SpellsCharacters cs rest

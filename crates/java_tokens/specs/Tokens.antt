@@ -25,7 +25,7 @@ ArePieces (piece ∷ pieces) characters rest =
     (behind : List ℕ) × (characters ≡ piece.text ++ behind) × IsLexeme piece.lexeme piece.text × IsWellFormed piece.lexeme
     × IsLongest piece.text behind × ArePieces pieces behind rest
 
--- a token with this text, behind these characters
+-- a token with this text, after these characters
 abbrev pub token_at : List ℕ → List ℕ → TokenKind → Token
 token_at front text kind = record {
   kind = kind;
@@ -35,17 +35,18 @@ token_at front text kind = record {
   column = column front;
 }
 
--- the token that a piece behind these characters is, if it is one
+-- the token that a piece after these characters is, if it is one
 abbrev pub token_of : List ℕ → List ℕ → Lexeme → List Token
 token_of front text (lexeme.Token kind) = token_at front text kind ∷ []
 token_of front text _ = []
 
--- the tokens among pieces that stand behind these characters
+-- the tokens among pieces that stand after these characters
 abbrev pub tokens_of : List ℕ → List Piece → List Token
 tokens_of front [] = []
 tokens_of front (piece ∷ pieces) = token_of front piece.text piece.lexeme ++ tokens_of (front ++ piece.text) pieces
 
--- the tokens of the bytes: they are UTF-8, and their characters are pieces, whose tokens these are, with that of the end
+-- the tokens of the bytes: they are UTF-8, and their characters are pieces, whose tokens these are, with that of the
+-- end
 pub record AreTokens (bytes : List ℕ) (tokens : List Token) : Type 0 where
   pub characters : List ℕ
   pub scalars : all_scalars characters ≡ true

@@ -37,7 +37,7 @@ impl Place {
         place
     }
 
-    /// Where the next character stands, behind this one, which may stand directly behind a carriage return. Each number
+    /// Where the next character stands, after this one, which may stand directly after a carriage return. Each number
     /// has room for the bytes of a character.
     fn behind(self, character: char, behind_return: bool) -> Place
         requires bytes { self.offset + 4 < 2 ^ 32 }

@@ -26,7 +26,7 @@ fn text_of(bytes: &[u8]) -> &str
 }
 
 /// The error of a malformed text, which stands at `place` and takes the characters from `from` to before `to`. They are
-/// all of the file where `whole` is true; else a bad byte stands behind them, and it counts where a text is open there.
+/// all of the file where `whole` is true; else a bad byte stands after them, and it counts where a text is open there.
 fn fault_of(
     flaw: Flaw,
     place: Place,
@@ -73,7 +73,7 @@ fn token(kind: TokenKind, place: Place, end: u32) -> Token
     }
 }
 
-/// The tokens of these characters, which are all of the file where `whole` is true; else a bad byte stands behind them.
+/// The tokens of these characters, which are all of the file where `whole` is true; else a bad byte stands after them.
 fn read(alloc: Global, characters: &[char], whole: bool) -> Result<Vec<Token>, TokenError>
     requires { offset characters.now < 2 ^ 31 }
     ensures ok { IfOk result (λ tokens. HasTokens characters.now whole tokens.items) }

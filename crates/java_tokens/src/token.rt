@@ -24,7 +24,7 @@ pub enum TokenKind {
     Word(Keyword),
     /// A separator or an operator.
     Op(Operator),
-    /// The end of the source, behind its last character.
+    /// The end of the source, after its last character.
     End,
 }
 

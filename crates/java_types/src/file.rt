@@ -1,75 +1,61 @@
-//! The public call: the rules in turn, and the resolved program.
+//! The public calls.
 
-ghost use Rattle.std.specs.Prelude.{◌≡◌, ◌++◌, [], IfErr, IfOk, OnOk};
-ghost use Rattle.java_exprs.specs.Checks.{Refuses};
-ghost use Rattle.java_types.specs.Answers as answer;
-ghost use Rattle.java_types.specs.Files as spec;
+ghost use Rattle.std.specs.Prelude.{◌≡◌, List, [], IfErr, IfOk, OnOk};
+ghost use Rattle.core_tree.specs.WellTyped.{IsWellTyped};
+ghost use Rattle.java_tokens.specs.declared.token.Token.{Token};
+ghost use Rattle.java_syntax.specs.Spells.{Spells};
+ghost use Rattle.class_table.specs.Faults.{Clear};
+ghost use Rattle.class_table.specs.Rules.{Breaks};
+ghost use Rattle.class_table.specs.Table.{table_of};
+ghost use Rattle.class_table.specs.TableFacts.{IsTable};
+ghost use Rattle.java_names.specs.Refusals.{Refuses};
+ghost use Rattle.java_members.specs.Files.{faults_of, first_env, program_of};
 
-use crate::classes::classes;
-use crate::constants::read_constants;
-use crate::declarations::check_declarations;
-use crate::main_method::main_number;
-use crate::members::{add_made_makers, resolve_members};
 use class_table::ClassTable;
 use core_tree::Program;
-use java_exprs::{Constants, Environment};
-use java_names::symbols;
+use java_exprs::Environment;
+use java_members::{environment, resolve_file};
 use java_syntax::{CheckError, FileTree};
-use sqlite_items::Items;
-use std::alloc::{AllocError, Global};
+use std::alloc::Global;
+use typing_law::programs_are_typed;
 
-// What is known before the constants are read.
-fn first_environment(
-    alloc: Global,
-    table: &ClassTable,
-    tree: &FileTree,
-) -> Result<Environment, AllocError>
-    ensures { IfOk result (λ env. env ≡ spec.first_env table.now tree.now) }
+/// The resolved program of a file, given the table of its classes (JLS 6, 8, 14, 15). It is well typed where the table
+/// is that of the tree, and the tree spells some tokens and breaks none of rules 1 to 9.
+///
+/// # Errors
+/// `Fault` with the number of a rule of 10 to 21 and the number of a token, counted from 0, at which that rule is
+/// broken: any one of them where several are, but of declarations alone where one of these breaks a rule. `OutOfMemory`
+/// where memory runs out.
+pub fn resolve(alloc: Global, table: &ClassTable, tree: &FileTree) -> Result<Program, CheckError>
+    ensures program { IfOk result (λ program. program ≡ program_of table.now tree.now) }
+    ensures clear { OnOk result (faults_of table.now tree.now ≡ []) }
+    ensures typed { (tokens : List Token) → Spells tree.now tokens → table.now ≡ table_of tree.now → IsTable table.now
+        → Clear (Breaks tree.now) → IfOk result IsWellTyped }
+    ensures fault { IfErr result (Refuses (faults_of table.now tree.now)) }
 {
-    Ok(Environment {
-        symbols: symbols(alloc, table)?,
-        constants: Constants::new(alloc),
-        places: Items::from_slice(alloc, tree.places.as_slice())?,
-    })
+    let mut env = environment(alloc, table, tree)?;
+    resolve_in(alloc, &mut env, table, tree)
 }
 
-// The resolved program, where all declarations are in order and the constants are read.
-#[tactic(auto, using(java_exprs::proofs::RulesLemmas::joins))]
-fn program(
+/// The same, given what is known of the file before its constants are read. These are added to it, and its symbols
+/// stay.
+///
+/// # Errors
+/// Those of `resolve`.
+pub fn resolve_in(
     alloc: Global,
-    env: &Environment,
+    env: &mut Environment,
     table: &ClassTable,
     tree: &FileTree,
 ) -> Result<Program, CheckError>
-    ensures program { IfOk result (λ program. program ≡ spec.program_in env.now table.now tree.now) }
-    ensures clear { OnOk result (spec.of_members (spec.member_faults env.now) spec.first_class tree.now.classes ++ spec.of_made (spec.made_faults env.now) spec.first_class tree.now.classes ≡ []) }
-    ensures fault { IfErr result (Refuses (spec.of_members (answer.faults_in env.now) spec.first_class tree.now.classes ++ spec.of_made (spec.made_faults env.now) spec.first_class tree.now.classes)) }
+    requires { env.old ≡ first_env table.now tree.now }
+    ensures program { IfOk result (λ program. program ≡ program_of table.now tree.now) }
+    ensures clear { OnOk result (faults_of table.now tree.now ≡ []) }
+    ensures typed { (tokens : List Token) → Spells tree.now tokens → table.now ≡ table_of tree.now → IsTable table.now
+        → Clear (Breaks tree.now) → IfOk result IsWellTyped }
+    ensures symbols { OnOk result (env.new.symbols ≡ env.old.symbols) }
+    ensures fault { IfErr result (Refuses (faults_of table.now tree.now)) }
 {
-    let mut bodies = resolve_members(alloc, env, tree.classes.as_slice())?;
-    add_made_makers(alloc, env, tree.classes.as_slice(), &mut bodies.makers)?;
-    let classes = classes(alloc, env, tree, table.classes.as_slice())?;
-    let main = main_number(tree)?;
-    Ok(Program {
-        classes,
-        methods: bodies.methods,
-        makers: bodies.makers,
-        main,
-    })
-}
-
-/// The resolved program of a file, given the table of its classes (JLS 6, 8, 14, 15).
-///
-/// # Errors
-/// `Fault` with the number of a rule of 10 to 21 and the number of a token, counted from 0, at which that rule is broken:
-/// any one of them where several are, but of declarations alone where one of these breaks a rule. `OutOfMemory` where there
-/// is no memory left.
-pub fn resolve(alloc: Global, table: &ClassTable, tree: &FileTree) -> Result<Program, CheckError>
-    ensures program { IfOk result (λ program. program ≡ spec.program_of table.now tree.now) }
-    ensures clear { OnOk result (spec.faults_of table.now tree.now ≡ []) }
-    ensures fault { IfErr result (Refuses (spec.faults_of table.now tree.now)) }
-{
-    let mut env = first_environment(alloc, table, tree)?;
-    check_declarations(alloc, &env, tree.classes.as_slice())?;
-    read_constants(alloc, &mut env, tree.classes.as_slice())?;
-    program(alloc, &env, table, tree)
+    programs_are_typed();
+    resolve_file(alloc, env, table, tree)
 }

@@ -1,25 +1,8 @@
-//! A whole file, checked and resolved: what rules 10 to 21 say of members and constructors, and the resolved program of a
-//! file.
+//! The program of a file that breaks none of rules 10 to 21, and that it is well typed.
 //!
-//! Read `specs/Declarations`, `specs/Constants`, `specs/Bodies`, and `specs/Files`, whose `faults_of` and `program_of` are
-//! what the crate is about.
+//! The rules are those of `java_members`, the typing is the law of `typing_law`; the calls put them together.
 #![tactic(auto)]
 
-mod classes;
-mod constants;
-mod constructors;
-mod declarations;
-mod fields;
 mod file;
-mod main_method;
-mod members;
-mod methods;
-mod modifiers;
-mod numbers;
-mod parameters;
-mod scopes;
-mod slots;
-mod superclass;
-mod types;
 
-pub use file::resolve;
+pub use file::{resolve, resolve_in};

@@ -7,7 +7,7 @@ use std::{env, fs, process};
 
 // A file that is read up to a limit, where this call fails.
 #[derive(Clone, Copy)]
-struct Row {
+struct FileRow {
     name: &'static str,
     limit: usize,
     failing: u64,
@@ -15,36 +15,36 @@ struct Row {
     error: Option<ReadError>,
 }
 
-const ROWS: [Row; 5] = [
-    Row {
+const ROWS: [FileRow; 5] = [
+    FileRow {
         name: "five",
         limit: 5,
         failing: 0,
         bytes: b"abcde",
         error: None,
     },
-    Row {
+    FileRow {
         name: "five",
         limit: 4,
         failing: 0,
         bytes: b"",
         error: Some(ReadError::TooLong),
     },
-    Row {
+    FileRow {
         name: "none",
         limit: 5,
         failing: 0,
         bytes: b"",
         error: Some(ReadError::ReadFault),
     },
-    Row {
+    FileRow {
         name: "five",
         limit: 5,
         failing: 1,
         bytes: b"",
         error: Some(ReadError::ReadFault),
     },
-    Row {
+    FileRow {
         name: "five",
         limit: 5,
         failing: 2,

@@ -5,7 +5,7 @@ use std::test::Fail;
 
 // What is put into a sink that takes one byte at a time, where this write and this flush fail.
 #[derive(Clone, Copy)]
-struct Row {
+struct SinkRow {
     failing_write: u64,
     failing_flush: u64,
     put: Result<(), PutError>,
@@ -14,8 +14,8 @@ struct Row {
     flushed: usize,
 }
 
-const ROWS: [Row; 3] = [
-    Row {
+const ROWS: [SinkRow; 3] = [
+    SinkRow {
         failing_write: 0,
         failing_flush: 0,
         put: Ok(()),
@@ -23,7 +23,7 @@ const ROWS: [Row; 3] = [
         flush: Ok(()),
         flushed: 3,
     },
-    Row {
+    SinkRow {
         failing_write: 2,
         failing_flush: 2,
         put: Err(PutError::WriteFault),
@@ -31,7 +31,7 @@ const ROWS: [Row; 3] = [
         flush: Ok(()),
         flushed: 1,
     },
-    Row {
+    SinkRow {
         failing_write: 1,
         failing_flush: 1,
         put: Err(PutError::WriteFault),

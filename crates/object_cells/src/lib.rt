@@ -1,11 +1,11 @@
 //! A store seen by positions: the cells, kinds and sizes of objects, where a value refers to an object by its position.
 //!
-//! `heap_arena`'s `Store` asks its caller that an object and a place are there. Each call here tells instead whether they are,
-//! as the reference evaluation does, and asks for nothing but what a new object needs. The definitions are those of
-//! `heap_arena`'s `specs/Heap` and of `evaluation`'s `specs/Objects`.
+//! `heap_arena`'s `Store` asks its caller that an object and a place are there. Each call here tells instead whether
+//! they are, as the reference evaluation does, and asks for nothing but what a new object needs. The definitions are
+//! those of `heap_arena`'s `specs/Heap` and of `evaluation`'s `specs/Objects`.
 //!
-//! Read `look`, `cells`, `making` and `fitting`; `position` is what the values of the store and those of positions have in
-//! common.
+//! Read `look`, `cells`, `making` and `fitting`; `position` is what the values of the store and those of positions have
+//! in common.
 #![tactic(auto)]
 
 mod cells;

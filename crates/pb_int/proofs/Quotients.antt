@@ -12,7 +12,7 @@ opposite_abs : (n : ℕ) → unsigned_abs (neg_ℤ (pos n)) ≡ n
 opposite_abs zero = refl
 opposite_abs (suc n) = refl
 
--- a quotient is no farther from 0 than the dividend
+-- a quotient isn't farther from 0 than the dividend
 quotient_near : (a d : ℤ) → unsigned_abs (int_div a d) ≤ unsigned_abs a
 quotient_near (pos a) (pos d) = div-le_self a d
 quotient_near (pos a) (negsuc d) = omega (arith, opposite_abs (a / suc d), div-le_self a (suc d))

@@ -1,6 +1,6 @@
 //! The call of a row.
 
-use crate::row::Row;
+use crate::row::TopRow;
 use anyhow::{Result, ensure};
 use pb_io::{MemFiles, MemSink};
 use planb_run::{Ending, planb};
@@ -8,7 +8,7 @@ use std::alloc::{AllocError, Global};
 
 /// How a call ended, and what it left.
 #[derive(Drop)]
-pub struct Call {
+pub struct TopCall {
     pub ending: Ending,
     pub files: MemFiles,
     pub out: MemSink,
@@ -16,7 +16,7 @@ pub struct Call {
 }
 
 /// Calls `planb` with the words of a row, where the file `F` has its source and the sinks and files fail where it says.
-pub fn make_call(alloc: Global, row: &Row) -> Result<Call> {
+pub fn make_call(alloc: Global, row: &TopRow) -> Result<TopCall> {
     let largest = row.largest_write;
     ensure!(largest > 0, "a write that takes nothing in {}", row.name);
     let failing = row.failing;
@@ -32,7 +32,7 @@ pub fn make_call(alloc: Global, row: &Row) -> Result<Call> {
         one(alloc, failing.report_flush)?,
     );
     let ending = planb(alloc, &row.words, &mut files, &mut out, &mut report);
-    Ok(Call {
+    Ok(TopCall {
         ending,
         files,
         out,

@@ -7,8 +7,8 @@
 mod call;
 mod row;
 
-use crate::call::{Call, make_call};
-use crate::row::{Row, rows};
+use crate::call::{TopCall, make_call};
+use crate::row::{TopRow, rows};
 use pb_io::MemSink;
 use std::{env, fs, io};
 
@@ -31,7 +31,7 @@ fn main(rt: HostRuntime) -> anyhow::Result<()> {
 
 // Prints what came of a row's call: the status, the steps where the row wants them, how the report went, the bytes of
 // the output and of the report, and which names were started.
-fn print_call(rt: &impl Print, row: &Row, call: &Call) -> io::Result<()> {
+fn print_call(rt: &impl Print, row: &TopRow, call: &TopCall) -> io::Result<()> {
     println!(rt; "== {}", row.name)?;
     print!(rt; "status {}, ", call.ending.status)?;
     if row.tells_steps {

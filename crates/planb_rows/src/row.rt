@@ -25,7 +25,7 @@ pub struct Failing {
 
 /// One call of `planb`, and what is to be told of it.
 #[derive(Drop)]
-pub struct Row {
+pub struct TopRow {
     pub name: String,
     pub words: Vec<String>,
     pub source: Vec<u8>,
@@ -38,11 +38,11 @@ pub struct Row {
 const HEADING: &str = "== ";
 
 /// The rows of a file, in order. What stands before the first heading is none.
-pub fn rows(alloc: Global, text: &str) -> Result<Vec<Row>> {
+pub fn rows(alloc: Global, text: &str) -> Result<Vec<TopRow>> {
     let mut rows = Vec::new(alloc);
     for line in text.lines() {
         match line.strip_prefix(HEADING) {
-            Some(name) => rows.push(Row::new(alloc, name)?)?,
+            Some(name) => rows.push(TopRow::new(alloc, name)?)?,
             None => add_line(alloc, rows.last_mut(), line)?,
         }
     }
@@ -50,17 +50,17 @@ pub fn rows(alloc: Global, text: &str) -> Result<Vec<Row>> {
 }
 
 // Adds a line to a row, where there is one.
-fn add_line(alloc: Global, row: Option<&mut Row>, line: &str) -> Result<()> {
+fn add_line(alloc: Global, row: Option<&mut TopRow>, line: &str) -> Result<()> {
     match row {
         Some(row) => row.add(alloc, line).context(format_args!("in {line:?}")),
         None => Ok(()),
     }
 }
 
-impl Row {
+impl TopRow {
     // A row with this name and no further lines.
-    fn new(alloc: Global, name: &str) -> Result<Row, AllocError> {
-        Ok(Row {
+    fn new(alloc: Global, name: &str) -> Result<TopRow, AllocError> {
+        Ok(TopRow {
             name: String::from_str(alloc, name)?,
             words: words(alloc, "planb F")?,
             source: Vec::new(alloc),

@@ -88,7 +88,7 @@ early_refuses_not stop.OutOfMemory early refusal = refusal
 early_refuses_not stop.ReadFault early refusal = refusal
 early_refuses_not stop.WriteFault early refusal = refusal
 
--- ---- the words are no command
+-- ---- the words aren't a command
 
 pub obeys-usage : (words : List (List ℕ)) (outside : Outside) → command words ≡ None
     → Obeys words outside outside None stop.Usage 0

@@ -8,10 +8,10 @@ use Rattle.java_tokens.specs.declared.error.TokenError.TheVariants as token
 use Rattle.java_tokens.specs.Tokens.{AreTokens}
 use Rattle.java_tokens.specs.Faults.{HasFault}
 use Rattle.java_tokens.proofs.OneReading.{one_list, one_fault, no_list_with_fault}
-use Rattle.java_syntax.specs.declared.fault.Fault.{Fault}
+use Rattle.token_reading.specs.declared.fault.Fault.{Fault}
 use Rattle.java_syntax.specs.declared.class.FileTree.{FileTree}
 use Rattle.java_syntax.specs.Spells.{Spells}
-use Rattle.java_exprs.specs.Checks.{Has}
+use Rattle.java_names.specs.Refusals.{Has}
 use Rattle.java_source.specs.declared.refusal.SourceRefusal.{SourceRefusal}
 use Rattle.java_source.specs.declared.refusal.SourceRefusal.TheVariants as refusal
 use Rattle.java_source.specs.declared.refusal.TokenKindError.{TokenKindError}
@@ -21,7 +21,7 @@ use Rattle.java_source.specs.Refused.{RefusesFor, lexical_error}
 
 -- ---- lexical faults
 
--- none is a want of memory
+-- none is a memory that runs out
 lexical_known : (kind : TokenKindError) (at : ℕ) → lexical_error kind at ≢ token.OutOfMemory
 lexical_known kinds.Utf8 at is = cc
 lexical_known kinds.Character at is = cc

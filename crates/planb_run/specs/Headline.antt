@@ -150,7 +150,7 @@ module _ (words : List (List ℕ)) (before now : Outside) (ended : Stop) (steps 
     pub out : now.out ≡ before.out
     pub no_step : steps ≡ 0
 
-  -- `words`: usage comes exactly where the words are no command; then nothing was done to the files and the output
+  -- `words`: usage comes exactly where the words aren't a command; then nothing was done to the files and the output
   pub record RefusesWords : Type 0 where
     pub exactly : (ended ≡ stop.Usage) ↔ (command words ≡ None)
     pub files : ended ≡ stop.Usage → now.files ≡ before.files

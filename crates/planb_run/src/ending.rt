@@ -15,7 +15,8 @@ pub struct Ending {
 pub enum Stop {
     /// The program ended normally.
     Done,
-    /// An exception that nothing caught ended the program: its class by its number there, and its message where it has one.
+    /// An exception that nothing caught ended the program: its class by its number there, and its message where it has
+    /// one.
     Uncaught { class: u32, message: Option<Text> },
     /// The words are no command.
     Usage,

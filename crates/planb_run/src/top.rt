@@ -24,7 +24,7 @@ pub fn planb<F: Files, O: Sink, R: Sink>(
     out: &mut O,
     report: &mut R,
 ) -> Ending
-    // Usage comes exactly where the words are no command; then nothing was done to the files and the output.
+    // Usage comes exactly where the words aren't a command; then nothing was done to the files and the output.
     ensures words { RefusesWords (texts words.now)
         (record { files = F.state files.old; out = O.state out.old })
         (record { files = F.state files.new; out = O.state out.new })

@@ -1,8 +1,7 @@
 //! The look-ups of classes and members, on what one small class declares.
 
 use crate::reading::{name, table_of};
-use class_table::Shared;
-use core_tree::Ty;
+use core_tree::{Shared, Ty};
 use java_names::{Meaning, Scope, Selector, Symbols, is_accessible, symbols};
 use std::alloc::Global;
 use std::test::Fail;

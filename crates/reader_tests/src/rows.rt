@@ -1,7 +1,8 @@
 //! The rows of a class table.
 
 use crate::reading::{name, table_of, tree_of};
-use class_table::{ClassRow, FieldRow, Shared, table};
+use class_table::{ClassRow, FieldRow, table};
+use core_tree::Shared;
 use java_syntax::{BaseType, CheckError, Fault, Modifier, TypeTree};
 use std::alloc::{AllocError, Global};
 use std::test::Fail;

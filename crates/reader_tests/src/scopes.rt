@@ -1,8 +1,7 @@
 //! Locals in scope, and the numbers of names.
 
 use crate::reading::name;
-use class_table::Shared;
-use core_tree::Ty;
+use core_tree::{Shared, Ty};
 use java_names::{Locals, Numbering, Scope};
 use std::test::Fail;
 

@@ -6,8 +6,8 @@ use crate::{Matrix, Row};
 use gate_net::Net;
 use std::alloc::{AllocError, Global};
 
-/// The pairs that a nonempty list of edges joins, of any length (Warshall). Over n objects it adds at most 2 * n * n * n
-/// nodes.
+/// The pairs that a nonempty list of edges joins, of any length (Warshall). Over n objects it adds at most 2 * n * n *
+/// n nodes.
 ///
 /// Answers `AllocError` where memory is refused. Earlier nodes keep their values, also then.
 pub fn closure(net: &mut Net, r: &Matrix) -> Result<Matrix, AllocError>

@@ -1,12 +1,12 @@
-//! Runs the programs of a list, and prints what each prints and how it ends. Its stored run is the table of the machine's
-//! programs, in `data`, whose results come from `java`; `tools/ask_java rows` compares them.
+//! Runs the programs of a list, and prints what each prints and how it ends. Its stored run is the table of the
+//! machine's programs, in `data`, whose results come from `java`; `tools/ask_java rows` compares them.
 //!
 //! A line of the list has a file, a budget of steps and the program's arguments, separated by tabs.
 #![tactic(auto)]
 
 mod run;
 
-use crate::run::{Fault, run_line};
+use crate::run::{Stopped, run_line};
 use pb_io::HostSink;
 use std::{env, fs, io};
 
@@ -23,8 +23,8 @@ fn main(rt: HostRuntime) -> io::Result<()> {
     for line in list.lines() {
         match run_line(&rt, line, &mut out) {
             Ok(()) => {}
-            Err(Fault::OutOfMemory) => println!(rt; "out of memory")?,
-            Err(Fault::Outside) => println!(rt; "fault of the outside")?,
+            Err(Stopped::OutOfMemory) => println!(rt; "out of memory")?,
+            Err(Stopped::Outside) => println!(rt; "fault of the outside")?,
         }
     }
     Ok(())

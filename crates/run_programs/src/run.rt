@@ -12,35 +12,35 @@ use std::rt::Files;
 
 /// What kept a line from being run.
 #[derive(Drop)]
-pub enum Fault {
+pub enum Stopped {
     OutOfMemory,
     /// A file couldn't be read, or nothing be written.
     Outside,
 }
 
-impl From<AllocError> for Fault {
+impl From<AllocError> for Stopped {
     fn from(_: AllocError) -> Self {
-        Fault::OutOfMemory
+        Stopped::OutOfMemory
     }
 }
 
-impl<T: Drop> From<AllocFailed<T>> for Fault {
+impl<T: Drop> From<AllocFailed<T>> for Stopped {
     fn from(_: AllocFailed<T>) -> Self {
-        Fault::OutOfMemory
+        Stopped::OutOfMemory
     }
 }
 
-impl From<OutOfMemory> for Fault {
+impl From<OutOfMemory> for Stopped {
     fn from(_: OutOfMemory) -> Self {
-        Fault::OutOfMemory
+        Stopped::OutOfMemory
     }
 }
 
-impl From<PutError> for Fault {
+impl From<PutError> for Stopped {
     fn from(error: PutError) -> Self {
         match error {
-            PutError::OutOfMemory => Fault::OutOfMemory,
-            PutError::WriteFault => Fault::Outside,
+            PutError::OutOfMemory => Stopped::OutOfMemory,
+            PutError::WriteFault => Stopped::Outside,
         }
     }
 }
@@ -50,7 +50,7 @@ pub fn run_line<W: Write + Drop>(
     rt: &(impl Files + AllocGlobal),
     line: &str,
     out: &mut HostSink<W>,
-) -> Result<(), Fault> {
+) -> Result<(), Stopped> {
     let alloc = rt.alloc();
     let mut fields = line.split('\t');
     let Some(file) = fields.next() else {
@@ -66,17 +66,21 @@ pub fn run_line<W: Write + Drop>(
     }
     put_all(out, format!(in alloc; "== {file}\n")?.as_bytes())?;
     let Ok(bytes) = fs::read(rt, file) else {
-        return Err(Fault::Outside);
+        return Err(Stopped::Outside);
     };
     match program_of(alloc, &bytes) {
         Ok(program) => run(alloc, &program, &args, steps, out),
         Err(SourceError::Refused(refusal)) => write_refusal(alloc, refusal, out),
-        Err(SourceError::OutOfMemory) => Err(Fault::OutOfMemory),
+        Err(SourceError::OutOfMemory) => Err(Stopped::OutOfMemory),
     }
 }
 
 // Writes why a source has no program.
-fn write_refusal<O: Sink>(alloc: Global, refusal: SourceRefusal, out: &mut O) -> Result<(), Fault> {
+fn write_refusal<O: Sink>(
+    alloc: Global,
+    refusal: SourceRefusal,
+    out: &mut O,
+) -> Result<(), Stopped> {
     put_all(out, format!(in alloc; "refused {refusal:?}\n")?.as_bytes())?;
     Ok(())
 }
@@ -88,7 +92,7 @@ fn run<O: Sink>(
     args: &[String],
     steps: u64,
     out: &mut O,
-) -> Result<(), Fault> {
+) -> Result<(), Stopped> {
     let store = CopyStore::new(alloc, program)?;
     let mut machine = Machine::new(alloc, store);
     let line = match machine.attempt(program, args, steps, out) {
@@ -100,15 +104,15 @@ fn run<O: Sink>(
 }
 
 // The line of an ending; nothing where the program came to its end.
-fn ending(alloc: Global, program: &Program, stop: RunStop) -> Result<String, Fault> {
+fn ending(alloc: Global, program: &Program, stop: RunStop) -> Result<String, Stopped> {
     match stop {
         RunStop::Done => Ok(String::new(alloc)),
         RunStop::Uncaught { class, message } => uncaught(alloc, program, class, message),
         RunStop::StepsSpent => Ok(String::from_str(alloc, "steps spent\n")?),
         RunStop::Full(What::Cells) => Ok(String::from_str(alloc, "full cells\n")?),
         RunStop::Full(What::Text) => Ok(String::from_str(alloc, "full text\n")?),
-        RunStop::OutOfMemory => Err(Fault::OutOfMemory),
-        RunStop::WriteFault => Err(Fault::Outside),
+        RunStop::OutOfMemory => Err(Stopped::OutOfMemory),
+        RunStop::WriteFault => Err(Stopped::Outside),
     }
 }
 
@@ -118,7 +122,7 @@ fn uncaught(
     program: &Program,
     class: u32,
     message: Option<Text>,
-) -> Result<String, Fault> {
+) -> Result<String, Stopped> {
     let mut line = String::from_str(alloc, "uncaught ")?;
     if let Some(class) = program.classes.get(class as usize) {
         push_all(&mut line, class.name.characters())?;
@@ -132,7 +136,7 @@ fn uncaught(
 }
 
 // Appends characters to a line.
-fn push_all(line: &mut String, characters: &[char]) -> Result<(), Fault> {
+fn push_all(line: &mut String, characters: &[char]) -> Result<(), Stopped> {
     for character in characters {
         line.push(*character)?;
     }

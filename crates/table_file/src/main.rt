@@ -1,5 +1,8 @@
 //! Reads a file and prints what class_table finds in it: `table` with the number of its classes, `rule R at L:C`, a
 //! fault of its tokens, `syntax at L:C`, `too deep`, or `out of memory`. `bench/table` measures it.
+//!
+//! With the word `tree` after the file it reads the tree alone and prints `tree`, `syntax at token N`, `too deep`, a
+//! fault of its tokens, or `out of memory`. `bench/parse` measures that.
 #![tactic(auto)]
 
 use class_table::table;
@@ -12,7 +15,17 @@ use std::{env, fs, io};
 /// The bytes of the longest file that it reads.
 const MOST_BYTES: usize = 1 << 30;
 
-const USAGE: &str = "usage: table_file FILE";
+const USAGE: &str = "usage: table_file FILE [tree]";
+
+/// Prints whether a tree was read.
+fn print_tree(rt: &HostRuntime, read: &Result<FileTree, ParseError>) -> io::Result<()> {
+    match read {
+        Ok(_) => println!(rt; "tree"),
+        Err(ParseError::Syntax(at)) => println!(rt; "syntax at token {at}"),
+        Err(ParseError::TooDeep) => println!(rt; "too deep"),
+        Err(ParseError::OutOfMemory) => println!(rt; "out of memory"),
+    }
+}
 
 /// Prints what is wrong at a token, with its line and column.
 fn print_place(rt: &HostRuntime, what: &str, tokens: &[Token], at: u32) -> io::Result<()> {
@@ -50,6 +63,15 @@ fn main(rt: HostRuntime) -> io::Result<()> {
     let Some(file) = words.next() else {
         return println!(rt; "{USAGE}");
     };
+    let tree_alone = match words.next() {
+        None => false,
+        Some(word) => {
+            if word.as_str() != "tree" {
+                return println!(rt; "{USAGE}");
+            }
+            true
+        }
+    };
     let bytes = fs::read(&rt, &file)?;
     if bytes.len() > MOST_BYTES {
         return println!(rt; "too long");
@@ -58,7 +80,11 @@ fn main(rt: HostRuntime) -> io::Result<()> {
         Ok(tokens) => tokens,
         Err(error) => return println!(rt; "{error}"),
     };
-    match parse(alloc, &tokens) {
+    let read = parse(alloc, &tokens);
+    if tree_alone {
+        return print_tree(&rt, &read);
+    }
+    match read {
         Ok(tree) => print_table(&rt, alloc, &tokens, &tree),
         Err(ParseError::Syntax(at)) => print_place(&rt, "syntax", &tokens, at),
         Err(ParseError::TooDeep) => println!(rt; "too deep"),

@@ -3,20 +3,19 @@ use Rattle.std.proofs.Common.{◌≡◌, ℕ, Bool, true, false, not, ◌||◌, 
 use Rattle.std.specs.List.{list_any}
 use Rattle.std.specs.Prelude.{Result}
 use Rattle.java_names.specs.declared.symbol.Symbols.{Symbols}
-use Rattle.java_syntax.specs.declared.fault.CheckError.{CheckError}
-use Rattle.java_exprs.specs.Checks.{Has, Refuses}
-use Rattle.java_exprs.proofs.RulesLemmas.{refuses_left, refuses_right}
+use Rattle.token_reading.specs.declared.fault.CheckError.{CheckError}
+use Rattle.java_names.specs.Refusals.{Has, Refuses, Allows}
+use Rattle.java_names.proofs.RefusalLemmas.{refuses_left, refuses_right}
 use Rattle.throw_check.specs.declared.handlers.Handlers.{Handlers}
 use Rattle.throw_check.specs.Points.{Point, points_at}
 use Rattle.throw_check.specs.Files.{broken_at, broken_at_points, unhandled}
 use Rattle.throw_check.specs.Classes.{is_checked, is_covered, is_declared}
 use Rattle.throw_check.specs.Statements.{uncaught}
-use Rattle.java_exprs.specs.declared.environment.Environment.{Environment}
 use Rattle.std.proofs.lemmas.List.{map-append, length-append}
 use Rattle.std.proofs.Math.Seq.{take-append_seam}
 use Rattle.std.proofs.lemmas.List.Folds.{list_any-append}
 use Rattle.std.proofs.lemmas.List.Elements.{filter-append}
-use Rattle.throw_check.specs.Walks.{Handles, faults_left, is_broken, inside_try, outside_try}
+use Rattle.throw_check.specs.Walks.{faults_left, is_broken, inside_try, outside_try}
 
 -- a test at the first of some classes
 any_first : (b more : Bool) → (b || more) ≡ false → (b ≡ false) × (more ≡ false)
@@ -79,23 +78,23 @@ broken_inside s h classes c =
     (by_cases (is_checked s c) (list_any (λ list. is_covered s list c) h.caught) (is_covered s classes c) (is_declared s h.declared c))
 
 -- what its clauses take is handled inside it
-pub left_try : (env : Environment) (h : Handlers) (classes : List ℕ) (points : List Point) → faults_left env.symbols h (uncaught env classes points) ≡ faults_left env.symbols (inside_try h classes) points
+pub left_try : (symbols : Symbols) (h : Handlers) (classes : List ℕ) (points : List Point) → faults_left symbols h (uncaught symbols classes points) ≡ faults_left symbols (inside_try h classes) points
 unfolding faults_left
-left_try env h classes [] = refl
-left_try env h classes (p ∷ points) = by_test (left_try env h classes points) (is_covered env.symbols classes p.class) (is_broken env.symbols h p.class) refl refl
+left_try symbols h classes [] = refl
+left_try symbols h classes (p ∷ points) = by_test (left_try symbols h classes points) (is_covered symbols classes p.class) (is_broken symbols h p.class) refl refl
   where
-    by_test : faults_left env.symbols h (uncaught env classes points) ≡ faults_left env.symbols (inside_try h classes) points
-        → (b broken : Bool) → is_covered env.symbols classes p.class ≡ b → is_broken env.symbols h p.class ≡ broken
-        → faults_left env.symbols h (uncaught env classes (p ∷ points)) ≡ faults_left env.symbols (inside_try h classes) (p ∷ points)
-    by_test more true broken is so = rw (broken_inside env.symbols h classes p.class, is) more
-    by_test more false true is so = rw (broken_inside env.symbols h classes p.class, is, so) (ap (λ faults. broken_at p.at ∷ faults) more)
-    by_test more false false is so = rw (broken_inside env.symbols h classes p.class, is, so) more
+    by_test : faults_left symbols h (uncaught symbols classes points) ≡ faults_left symbols (inside_try h classes) points
+        → (b broken : Bool) → is_covered symbols classes p.class ≡ b → is_broken symbols h p.class ≡ broken
+        → faults_left symbols h (uncaught symbols classes (p ∷ points)) ≡ faults_left symbols (inside_try h classes) (p ∷ points)
+    by_test more true broken is so = rw (broken_inside symbols h classes p.class, is) more
+    by_test more false true is so = rw (broken_inside symbols h classes p.class, is, so) (ap (λ faults. broken_at p.at ∷ faults) more)
+    by_test more false false is so = rw (broken_inside symbols h classes p.class, is, so) more
 
 -- ---- the whole of a method or constructor
 
-pub left_whole : (env : Environment) (lists : List (List ℕ)) (points : List Point) → faults_left env.symbols (record { declared = lists; caught = [] }) points ≡ broken_at_points (unhandled env lists points)
+pub left_whole : (symbols : Symbols) (lists : List (List ℕ)) (points : List Point) → faults_left symbols (record { declared = lists; caught = [] }) points ≡ broken_at_points (unhandled symbols lists points)
 unfolding faults_left
-left_whole env lists points = refl
+left_whole symbols lists points = refl
 
 -- ---- leaving a `try`
 
@@ -105,12 +104,12 @@ front_of lists classes = let one_less : length (lists ++ classes ∷ []) - 1 ≡
 pub outside_inside : (h : Handlers) (classes : List ℕ) → outside_try (inside_try h classes) ≡ h
 outside_inside h classes = ap (λ lists. record h { caught = lists }) (front_of h.caught classes)
 
--- ---- what a part behind others answers
+-- ---- what a part after others answers
 
 pub handles_behind : {T : Type 0} (s : Symbols) (h : Handlers) (xs ys : List Point) (r : Result T CheckError)
-    → faults_left s h xs ≡ [] → Handles (faults_left s h ys) r → Handles (faults_left s h (xs ++ ys)) r
+    → faults_left s h xs ≡ [] → Allows (faults_left s h ys) r → Allows (faults_left s h (xs ++ ys)) r
 handles_behind s h xs ys r none is = rw (left_both s h xs ys, none) is
 
-pub handles_whole : {T : Type 0} (env : Environment) (lists : List (List ℕ)) (points : List Point) (h : Handlers) (r : Result T CheckError)
-    → h ≡ record { declared = lists; caught = [] } → Handles (faults_left env.symbols h points) r → Handles (broken_at_points (unhandled env lists points)) r
-handles_whole env lists points h r is handled = rw (sym (left_whole env lists points)) (rw is at handled)
+pub handles_whole : {T : Type 0} (symbols : Symbols) (lists : List (List ℕ)) (points : List Point) (h : Handlers) (r : Result T CheckError)
+    → h ≡ record { declared = lists; caught = [] } → Allows (faults_left symbols h points) r → Allows (broken_at_points (unhandled symbols lists points)) r
+handles_whole symbols lists points h r is handled = rw (sym (left_whole symbols lists points)) (rw is at handled)

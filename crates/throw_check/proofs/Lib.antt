@@ -3,9 +3,6 @@ pub mod StatementLemmas
 pub mod Rows
 pub mod LeftLemmas
 pub mod CallLemmas
-pub mod TypeLemmas
-pub mod NodeLemmas
 pub mod ScopeLemmas
-pub mod BeginningLemmas
 pub mod FieldLemmas
 pub mod FileLemmas

@@ -4,9 +4,9 @@ use denote.Hole.Carrier.{out, shown, hidden}
 use Rattle.core_tree.specs.declared.ty.Ty.{out-Ty}
 use Rattle.core_tree.specs.declared.ty.Ty.TheVariants as ty
 use Rattle.core_tree.specs.declared.ty.Ty.TheBlock.{shown-the_row-Ty-0}
-use Rattle.java_syntax.specs.declared.fault.Fault.{Fault}
-use Rattle.java_syntax.specs.declared.name.Ident.{Ident}
-use Rattle.java_syntax.specs.declared.name.BaseType.TheVariants.{Int}
+use Rattle.token_reading.specs.declared.fault.Fault.{Fault}
+use Rattle.token_reading.specs.declared.name.Ident.{Ident}
+use Rattle.token_reading.specs.declared.name.BaseType.TheVariants.{Int}
 use Rattle.java_syntax.specs.declared.expression.Expr.{Expr}
 use Rattle.java_syntax.specs.declared.expression.Expr.TheVariants as tree
 use Rattle.java_syntax.specs.declared.statement.CatchTree.{CatchTree, roll-CatchTree}
@@ -19,10 +19,10 @@ use Rattle.java_names.specs.declared.symbol.MakerSymbol.{MakerSymbol}
 use Rattle.java_names.specs.declared.symbol.MethodSymbol.{MethodSymbol}
 use Rattle.java_names.specs.declared.scope.Scope.{Scope}
 use Rattle.java_names.specs.Scope.{first_scope, declared}
-use Rattle.java_exprs.specs.declared.environment.Environment.{Environment}
+use Rattle.java_names.specs.declared.symbol.Symbols.{Symbols}
 use Rattle.java_syntax.specs.declared.expression.Expr.TheOpen.{Expr-F}
-use Rattle.java_exprs.specs.Checks.{attr_at}
-use Rattle.java_exprs.proofs.AttrLemmas.{attr_new, attr_null, attr_name}
+use Rattle.java_denotes.specs.Known.{known_at}
+use Rattle.java_denotes.proofs.KnownLemmas.{known_new, known_null, known_name}
 use Rattle.throw_check.specs.Points.{points_here}
 use Rattle.throw_check.specs.Statements.{points, in_order, thrown_points}
 use Rattle.throw_check.specs.Files.{member_faults, made_faults, with_params}
@@ -52,18 +52,14 @@ class_a = record (class (Some 0) (5 ∷ 0 ∷ []) []) {
   methods = record { symbols = method (6 ∷ []) ∷ []; selectors = record { name = codes "m"; arity = 0 } ∷ []; names = codes "m" ∷ [] };
 }
 
-abbrev env : Environment
-env = record {
-  symbols = record {
-    names = codes "Object" ∷ codes "Throwable" ∷ codes "Exception" ∷ codes "RuntimeException" ∷ codes "Error" ∷ codes "A" ∷ codes "E" ∷ codes "F" ∷ codes "G" ∷ [];
-    classes =
-        class None (0 ∷ []) [] ∷ class (Some 0) (1 ∷ 0 ∷ []) [] ∷ class (Some 1) (2 ∷ 1 ∷ 0 ∷ []) [] ∷ class (Some 2) (3 ∷ 2 ∷ 1 ∷ 0 ∷ []) []
-        ∷ class (Some 1) (4 ∷ 1 ∷ 0 ∷ []) [] ∷ class_a ∷ class (Some 2) (6 ∷ 2 ∷ 1 ∷ 0 ∷ []) [] ∷ class (Some 6) (7 ∷ 6 ∷ 2 ∷ 1 ∷ 0 ∷ []) (6 ∷ [])
-        ∷ class (Some 7) (8 ∷ 7 ∷ 6 ∷ 2 ∷ 1 ∷ 0 ∷ []) [] ∷ [];
-    selectors = [];
-  };
-  constants = [];
-  places = [];
+abbrev symbols : Symbols
+symbols = record {
+  names = codes "Object" ∷ codes "Throwable" ∷ codes "Exception" ∷ codes "RuntimeException" ∷ codes "Error" ∷ codes "A" ∷ codes "E" ∷ codes "F" ∷ codes "G" ∷ [];
+  classes =
+      class None (0 ∷ []) [] ∷ class (Some 0) (1 ∷ 0 ∷ []) [] ∷ class (Some 1) (2 ∷ 1 ∷ 0 ∷ []) [] ∷ class (Some 2) (3 ∷ 2 ∷ 1 ∷ 0 ∷ []) []
+      ∷ class (Some 1) (4 ∷ 1 ∷ 0 ∷ []) [] ∷ class_a ∷ class (Some 2) (6 ∷ 2 ∷ 1 ∷ 0 ∷ []) [] ∷ class (Some 6) (7 ∷ 6 ∷ 2 ∷ 1 ∷ 0 ∷ []) (6 ∷ [])
+      ∷ class (Some 7) (8 ∷ 7 ∷ 6 ∷ 2 ∷ 1 ∷ 0 ∷ []) [] ∷ [];
+  selectors = [];
 }
 
 abbrev ident : List ℕ → ℕ → Ident
@@ -75,7 +71,7 @@ one name = ident name 5 ∷ []
 
 -- a method of A, in whose first scope its body stands
 abbrev faults : List Ident → List Stmt → List Fault
-faults throws body = member_faults env 5 ([] ∷ []) (member.Method (record { mods = record { words = [] }; answer = None; name = ident (codes "f") 4; params = []; throws = throws; body = body }))
+faults throws body = member_faults symbols 5 ([] ∷ []) (member.Method (record { mods = record { words = [] }; answer = None; name = ident (codes "f") 4; params = []; throws = throws; body = body }))
 
 abbrev scope : Scope
 scope = first_scope 5 false ty.Void
@@ -87,8 +83,8 @@ throw_new name = stmt.Throw (tree.New 11 (ident name 12) [])
 -- ---- `throw`
 
 -- its points: the constructor's, and what is thrown
-thrown : (name : List ℕ) (s : Scope) → points env (throw_new name) s ≡ points_here env s (Expr-F.New 11 (ident name 12) []) ++ thrown_points (attr_at env s (Expr-F.New 11 (ident name 12) []))
-thrown name s = rw (of.points_throw env (tree.New 11 (ident name 12) []) s, points_new env s 11 (ident name 12) [], attr_new env s 11 (ident name 12) []) refl
+thrown : (name : List ℕ) (s : Scope) → points symbols (throw_new name) s ≡ points_here symbols s (Expr-F.New 11 (ident name 12) []) ++ thrown_points (known_at symbols s (Expr-F.New 11 (ident name 12) []))
+thrown name s = rw (of.points_throw symbols (tree.New 11 (ident name 12) []) s, points_new symbols s 11 (ident name 12) [], known_new symbols s 11 (ident name 12) []) refl
 
 undeclared : faults [] (throw_new (codes "E") ∷ []) ≡ record { rule = 23; at = 10 } ∷ []
 unfolding in_order with_params out-Ty out shown-the_row-Ty-0 shown hidden
@@ -112,7 +108,7 @@ unchecked = rw (thrown (codes "RuntimeException") scope) refl
 
 null_thrown : faults [] (stmt.Throw (tree.Null 11) ∷ []) ≡ []
 unfolding in_order with_params out-Ty out shown-the_row-Ty-0 shown hidden
-null_thrown = rw (of.points_throw env (tree.Null 11) scope, points_null env scope 11, attr_null env scope 11) refl
+null_thrown = rw (of.points_throw symbols (tree.Null 11) scope, points_null symbols scope 11, known_null symbols scope 11) refl
 
 -- the constructor of F declares E, and what is thrown is an F
 constructor_and_throw : faults [] (throw_new (codes "F") ∷ []) ≡ record { rule = 23; at = 11 } ∷ record { rule = 23; at = 10 } ∷ []
@@ -135,11 +131,11 @@ by_superclass : faults [] (try_throw (codes "Exception") [] ∷ []) ≡ []
 unfolding in_order with_params declared out-Ty out shown-the_row-Ty-0 shown hidden
 by_superclass =
     rw (
-      of.points_try env (stmt.Block (throw_new (codes "E") ∷ [])) (catching (codes "Exception") [] ∷ []) None scope,
-      of.points_block env (throw_new (codes "E") ∷ []) scope,
+      of.points_try symbols (stmt.Block (throw_new (codes "E") ∷ [])) (catching (codes "Exception") [] ∷ []) None scope,
+      of.points_block symbols (throw_new (codes "E") ∷ []) scope,
       thrown (codes "E") scope,
-      of.points_clause env (catching (codes "Exception") []) scope,
-      of.points_block env [] (with_x 2),
+      of.points_clause symbols (catching (codes "Exception") []) scope,
+      of.points_block symbols [] (with_x 2),
     )
     refl
 
@@ -147,11 +143,11 @@ by_subclass : faults [] (try_throw (codes "F") [] ∷ []) ≡ record { rule = 23
 unfolding in_order with_params declared out-Ty out shown-the_row-Ty-0 shown hidden
 by_subclass =
     rw (
-      of.points_try env (stmt.Block (throw_new (codes "E") ∷ [])) (catching (codes "F") [] ∷ []) None scope,
-      of.points_block env (throw_new (codes "E") ∷ []) scope,
+      of.points_try symbols (stmt.Block (throw_new (codes "E") ∷ [])) (catching (codes "F") [] ∷ []) None scope,
+      of.points_block symbols (throw_new (codes "E") ∷ []) scope,
       thrown (codes "E") scope,
-      of.points_clause env (catching (codes "F") []) scope,
-      of.points_block env [] (with_x 7),
+      of.points_clause symbols (catching (codes "F") []) scope,
+      of.points_block symbols [] (with_x 7),
     )
     refl
 
@@ -166,13 +162,13 @@ in_catch : faults [] (stmt.Try (stmt.Block []) (rethrow ∷ []) None ∷ []) ≡
 unfolding in_order with_params declared out-Ty out shown-the_row-Ty-0 shown hidden
 in_catch =
     rw (
-      of.points_try env (stmt.Block []) (rethrow ∷ []) None scope,
-      of.points_block env [] scope,
-      of.points_clause env rethrow scope,
-      of.points_block env (throw_x ∷ []) (with_x 6),
-      of.points_throw env (tree.Name (ident (codes "x") 25)) (with_x 6),
-      points_name env (with_x 6) (ident (codes "x") 25),
-      attr_name env (with_x 6) (ident (codes "x") 25),
+      of.points_try symbols (stmt.Block []) (rethrow ∷ []) None scope,
+      of.points_block symbols [] scope,
+      of.points_clause symbols rethrow scope,
+      of.points_block symbols (throw_x ∷ []) (with_x 6),
+      of.points_throw symbols (tree.Name (ident (codes "x") 25)) (with_x 6),
+      points_name symbols (with_x 6) (ident (codes "x") 25),
+      known_name symbols (with_x 6) (ident (codes "x") 25),
     )
     refl
 
@@ -181,11 +177,11 @@ in_finally : faults [] (stmt.Try (stmt.Block []) (catching (codes "E") [] ∷ []
 unfolding in_order with_params declared out-Ty out shown-the_row-Ty-0 shown hidden
 in_finally =
     rw (
-      of.points_try env (stmt.Block []) (catching (codes "E") [] ∷ []) (Some (stmt.Block (throw_new (codes "E") ∷ []))) scope,
-      of.points_block env [] scope,
-      of.points_clause env (catching (codes "E") []) scope,
-      of.points_block env [] (with_x 6),
-      of.points_block env (throw_new (codes "E") ∷ []) scope,
+      of.points_try symbols (stmt.Block []) (catching (codes "E") [] ∷ []) (Some (stmt.Block (throw_new (codes "E") ∷ []))) scope,
+      of.points_block symbols [] scope,
+      of.points_clause symbols (catching (codes "E") []) scope,
+      of.points_block symbols [] (with_x 6),
+      of.points_block symbols (throw_new (codes "E") ∷ []) scope,
       thrown (codes "E") scope,
     )
     refl
@@ -198,33 +194,33 @@ call = tree.Call (ident (codes "m") 8) []
 
 called : faults [] (stmt.Eval call ∷ []) ≡ record { rule = 23; at = 8 } ∷ []
 unfolding in_order with_params declared out-Ty out shown-the_row-Ty-0 shown hidden
-called = rw (of.points_eval env call scope, points_call env scope (ident (codes "m") 8) []) refl
+called = rw (of.points_eval symbols call scope, points_call symbols scope (ident (codes "m") 8) []) refl
 
 made : faults [] (stmt.Eval (tree.New 11 (ident (codes "F") 12) []) ∷ []) ≡ record { rule = 23; at = 11 } ∷ []
 unfolding in_order with_params declared out-Ty out shown-the_row-Ty-0 shown hidden
-made = rw (of.points_eval env (tree.New 11 (ident (codes "F") 12) []) scope, points_new env scope 11 (ident (codes "F") 12) []) refl
+made = rw (of.points_eval symbols (tree.New 11 (ident (codes "F") 12) []) scope, points_new symbols scope 11 (ident (codes "F") 12) []) refl
 
 -- ---- initialisers: `int g = m();`
 
 abbrev field : FieldTree
 field = record { mods = record { words = [] }; ty = record { base = Int; dimensions = 0 }; name = ident (codes "g") 6; value = Some call }
 
-without_constructor : member_faults env 5 ([] ∷ []) (member.Field field) ≡ record { rule = 23; at = 6 } ∷ []
+without_constructor : member_faults symbols 5 ([] ∷ []) (member.Field field) ≡ record { rule = 23; at = 6 } ∷ []
 unfolding in_order with_params declared out-Ty out shown-the_row-Ty-0 shown hidden
-without_constructor = rw (points_call env scope (ident (codes "m") 8) []) refl
+without_constructor = rw (points_call symbols scope (ident (codes "m") 8) []) refl
 
-by_the_constructor : member_faults env 5 ((6 ∷ []) ∷ []) (member.Field field) ≡ []
+by_the_constructor : member_faults symbols 5 ((6 ∷ []) ∷ []) (member.Field field) ≡ []
 unfolding in_order with_params declared out-Ty out shown-the_row-Ty-0 shown hidden
-by_the_constructor = rw (points_call env scope (ident (codes "m") 8) []) refl
+by_the_constructor = rw (points_call symbols scope (ident (codes "m") 8) []) refl
 
-by_one_of_two : member_faults env 5 ((6 ∷ []) ∷ [] ∷ []) (member.Field field) ≡ record { rule = 23; at = 6 } ∷ []
+by_one_of_two : member_faults symbols 5 ((6 ∷ []) ∷ [] ∷ []) (member.Field field) ≡ record { rule = 23; at = 6 } ∷ []
 unfolding in_order with_params declared out-Ty out shown-the_row-Ty-0 shown hidden
-by_one_of_two = rw (points_call env scope (ident (codes "m") 8) []) refl
+by_one_of_two = rw (points_call symbols scope (ident (codes "m") 8) []) refl
 
 -- ---- the superclass's constructor: class G is below F, whose constructor declares E
 
 abbrev below_f : List Ident → List Stmt → List Fault
-below_f throws body = member_faults env 8 ([] ∷ []) (member.Maker (record { mods = record { words = [] }; name = ident (codes "G") 9; params = []; throws = throws; body = body }))
+below_f throws body = member_faults symbols 8 ([] ∷ []) (member.Maker (record { mods = record { words = [] }; name = ident (codes "G") 9; params = []; throws = throws; body = body }))
 
 implicit : below_f [] [] ≡ record { rule = 23; at = 9 } ∷ []
 unfolding in_order with_params declared out-Ty out shown-the_row-Ty-0 shown hidden
@@ -238,5 +234,5 @@ explicit : below_f [] (stmt.Super 13 [] ∷ []) ≡ record { rule = 23; at = 13 
 unfolding in_order with_params declared out-Ty out shown-the_row-Ty-0 shown hidden
 explicit = rw (stmt.outs-Super 13 []) refl
 
-no_constructor : made_faults env 8 [] 9 ≡ record { rule = 23; at = 9 } ∷ []
+no_constructor : made_faults symbols 8 [] 9 ≡ record { rule = 23; at = 9 } ∷ []
 no_constructor = refl

@@ -1,19 +1,19 @@
--- Scopes that statements leave behind, and the way back to where a block began.
+-- Scopes after statements, and the way back to where a block began.
 use Rattle.std.proofs.Common.{◌≡◌, ◌∙◌, ℕ, ◌<◌, ◌-◌, Bool, true, false, List, [], ◌∷◌, ◌++◌, length, take, refl, ap, arith, append_assoc, append-nil}
 use Rattle.std.specs.Prelude.{is_some, if◌then◌else◌}
 use Rattle.std.proofs.lemmas.Grind.{common_steps}
 use Rattle.std.proofs.Math.Seq.{take-append_seam}
 use Rattle.core_tree.specs.declared.ty.Ty.{Ty}
-use Rattle.java_syntax.specs.declared.name.Ident.{Ident}
+use Rattle.token_reading.specs.declared.name.Ident.{Ident}
 use Rattle.java_syntax.specs.declared.statement.CatchTree.{CatchTree}
 use Rattle.java_syntax.specs.declared.statement.Stmt.{Stmt, out-Stmt}
 use Rattle.java_syntax.specs.declared.statement.Stmt.TheOpen.{Stmt-F}
 use Rattle.java_names.specs.declared.scope.Scope.{Scope}
 use Rattle.java_names.specs.Scope.{declared, local_of}
-use Rattle.java_exprs.specs.declared.environment.Environment.{Environment}
-use Rattle.java_statements.specs.Statements.{local_type}
+use Rattle.java_names.specs.declared.symbol.Symbols.{Symbols}
+use Rattle.java_names.specs.Types.{declared_type}
 use Rattle.throw_check.specs.Statements.{with_local, behind_node, behind, behind_all}
-use Rattle.throw_check.specs.Walks.{place_of, back_to}
+use Rattle.throw_check.specs.Walks.{entry_of, back_to}
 
 -- ---- taking the last of a list
 
@@ -49,30 +49,30 @@ by_test s x t false = grows_declared s x t
 grows_local : (s : Scope) (x : Ident) (t : Ty) → Grows s (with_local s x t)
 grows_local s x t = by_test s x.name t (is_some (local_of s x.name))
 
-grows_node : (env : Environment) (n : Stmt-F Stmt CatchTree) (s : Scope) → Grows s (behind_node env n s)
-grows_node env (Stmt-F.Local t) s = grows_local s t.name (local_type env t)
-grows_node env _ s = grows_same s
+grows_node : (symbols : Symbols) (n : Stmt-F Stmt CatchTree) (s : Scope) → Grows s (behind_node symbols n s)
+grows_node symbols (Stmt-F.Local t) s = grows_local s t.name (declared_type symbols.names t.ty)
+grows_node symbols _ s = grows_same s
 
-grows_behind : (env : Environment) (k : Stmt) (s : Scope) → Grows s (behind env k s)
-grows_behind env k s = grows_node env (out-Stmt k) s
+grows_behind : (symbols : Symbols) (k : Stmt) (s : Scope) → Grows s (behind symbols k s)
+grows_behind symbols k s = grows_node symbols (out-Stmt k) s
 
-grows_all : (env : Environment) (ks : List Stmt) (s : Scope) → Grows s (behind_all env ks s)
+grows_all : (symbols : Symbols) (ks : List Stmt) (s : Scope) → Grows s (behind_all symbols ks s)
 unfolding behind_all
-grows_all env [] s = grows_same s
-grows_all env (k ∷ ks) s = grows_on s (behind env k s) (behind_all env ks (behind env k s)) (grows_behind env k s) (grows_all env ks (behind env k s))
+grows_all symbols [] s = grows_same s
+grows_all symbols (k ∷ ks) s = grows_on s (behind symbols k s) (behind_all symbols ks (behind symbols k s)) (grows_behind symbols k s) (grows_all symbols ks (behind symbols k s))
 
 -- ---- back where the block began
 
-back_grown : (s t : Scope) → Grows s t → back_to (place_of s) t ≡ s
+back_grown : (s t : Scope) → Grows s t → back_to (entry_of s) t ≡ s
 unfolding back_to
 back_grown s t g = rw (g.is, take-append_seam s.locals g.locals, take-append_seam s.slots g.slots) refl
 
-pub back_behind : (env : Environment) (k : Stmt) (s : Scope) → back_to (place_of s) (behind env k s) ≡ s
-back_behind env k s = back_grown s (behind env k s) (grows_behind env k s)
+pub back_behind : (symbols : Symbols) (k : Stmt) (s : Scope) → back_to (entry_of s) (behind symbols k s) ≡ s
+back_behind symbols k s = back_grown s (behind symbols k s) (grows_behind symbols k s)
 
-pub back_all : (env : Environment) (ks : List Stmt) (s : Scope) → back_to (place_of s) (behind_all env ks s) ≡ s
-back_all env ks s = back_grown s (behind_all env ks s) (grows_all env ks s)
+pub back_all : (symbols : Symbols) (ks : List Stmt) (s : Scope) → back_to (entry_of s) (behind_all symbols ks s) ≡ s
+back_all symbols ks s = back_grown s (behind_all symbols ks s) (grows_all symbols ks s)
 
-pub back_local : (env : Environment) (k : Stmt) (s : Scope) (x : Ident) (t : Ty) → back_to (place_of s) (behind env k (with_local s x t)) ≡ s
-back_local env k s x t =
-    back_grown s (behind env k (with_local s x t)) (grows_on s (with_local s x t) (behind env k (with_local s x t)) (grows_local s x t) (grows_behind env k (with_local s x t)))
+pub back_local : (symbols : Symbols) (k : Stmt) (s : Scope) (x : Ident) (t : Ty) → back_to (entry_of s) (behind symbols k (with_local s x t)) ≡ s
+back_local symbols k s x t =
+    back_grown s (behind symbols k (with_local s x t)) (grows_on s (with_local s x t) (behind symbols k (with_local s x t)) (grows_local s x t) (grows_behind symbols k (with_local s x t)))

@@ -12,134 +12,133 @@ use Rattle.java_syntax.specs.declared.statement.Stmt.{Stmt}
 use Rattle.java_syntax.specs.declared.statement.Stmt.TheVariants as tree
 use Rattle.java_syntax.specs.declared.statement.Stmt.TheOpen.{Stmt-F}
 use Rattle.java_syntax.specs.declared.statement.Stmt.TheFolds.{para-Stmt, para-roll-Stmt, para-CatchTree, para-roll-CatchTree}
-use Rattle.java_syntax.specs.declared.class.ParamTree.{ParamTree}
-use Rattle.java_names.specs.Types.{declared_type}
+use Rattle.token_reading.specs.declared.name.ParamTree.{ParamTree}
+use Rattle.java_names.specs.Types.{declared_type, exception_type}
 use Rattle.java_names.specs.declared.scope.Scope.{Scope}
 use Rattle.throw_check.specs.Files.{with_params}
-use Rattle.java_exprs.specs.declared.environment.Environment.{Environment}
+use Rattle.java_names.specs.declared.symbol.Symbols.{Symbols}
 use Rattle.throw_check.specs.Statements.{Part, behind, behind_all, branch, caught, in_order, turn_points, uncaught, points, points_of, clause, clause_points, with_points, clause_with_points, with_local}
 use Rattle.throw_check.specs.Walks.{classes_of, clauses_points}
-use Rattle.java_statements.specs.Statements.{caught_type, local_type}
 
-pub points_empty : (env : Environment) (s : Scope) → points env tree.Empty s ≡ points_of env Stmt-F.Empty s
+pub points_empty : (symbols : Symbols) (s : Scope) → points symbols tree.Empty s ≡ points_of symbols Stmt-F.Empty s
 unfolding points clause
-points_empty env s = ap (λ part. part s) (ap (para-Stmt Part Part (points_of env) (clause_points env)) (sym tree.rolls-Empty) ∙ para-roll-Stmt Part Part (points_of env) (clause_points env) Stmt-F.Empty)
+points_empty symbols s = ap (λ part. part s) (ap (para-Stmt Part Part (points_of symbols) (clause_points symbols)) (sym tree.rolls-Empty) ∙ para-roll-Stmt Part Part (points_of symbols) (clause_points symbols) Stmt-F.Empty)
 
-pub points_block : (env : Environment) (all : List Stmt) (s : Scope) → points env (tree.Block all) s ≡ points_of env (Stmt-F.Block (map (with_points env) all)) s
+pub points_block : (symbols : Symbols) (all : List Stmt) (s : Scope) → points symbols (tree.Block all) s ≡ points_of symbols (Stmt-F.Block (map (with_points symbols) all)) s
 unfolding points clause
-points_block env all s = ap (λ part. part s) (ap (para-Stmt Part Part (points_of env) (clause_points env)) (sym (tree.rolls-Block all)) ∙ para-roll-Stmt Part Part (points_of env) (clause_points env) (Stmt-F.Block all))
+points_block symbols all s = ap (λ part. part s) (ap (para-Stmt Part Part (points_of symbols) (clause_points symbols)) (sym (tree.rolls-Block all)) ∙ para-roll-Stmt Part Part (points_of symbols) (clause_points symbols) (Stmt-F.Block all))
 
-pub points_local : (env : Environment) (t : LocalTree) (s : Scope) → points env (tree.Local t) s ≡ points_of env (Stmt-F.Local t) s
+pub points_local : (symbols : Symbols) (t : LocalTree) (s : Scope) → points symbols (tree.Local t) s ≡ points_of symbols (Stmt-F.Local t) s
 unfolding points clause
-points_local env t s = ap (λ part. part s) (ap (para-Stmt Part Part (points_of env) (clause_points env)) (sym (tree.rolls-Local t)) ∙ para-roll-Stmt Part Part (points_of env) (clause_points env) (Stmt-F.Local t))
+points_local symbols t s = ap (λ part. part s) (ap (para-Stmt Part Part (points_of symbols) (clause_points symbols)) (sym (tree.rolls-Local t)) ∙ para-roll-Stmt Part Part (points_of symbols) (clause_points symbols) (Stmt-F.Local t))
 
-pub points_assign : (env : Environment) (a : Expr) (op : AssignOp) (e : Expr) (s : Scope) → points env (tree.Assign a op e) s ≡ points_of env (Stmt-F.Assign a op e) s
+pub points_assign : (symbols : Symbols) (a : Expr) (op : AssignOp) (e : Expr) (s : Scope) → points symbols (tree.Assign a op e) s ≡ points_of symbols (Stmt-F.Assign a op e) s
 unfolding points clause
-points_assign env a op e s = ap (λ part. part s) (ap (para-Stmt Part Part (points_of env) (clause_points env)) (sym (tree.rolls-Assign a op e)) ∙ para-roll-Stmt Part Part (points_of env) (clause_points env) (Stmt-F.Assign a op e))
+points_assign symbols a op e s = ap (λ part. part s) (ap (para-Stmt Part Part (points_of symbols) (clause_points symbols)) (sym (tree.rolls-Assign a op e)) ∙ para-roll-Stmt Part Part (points_of symbols) (clause_points symbols) (Stmt-F.Assign a op e))
 
-pub points_step : (env : Environment) (op : StepOp) (side : Fix) (a : Expr) (s : Scope) → points env (tree.Step op side a) s ≡ points_of env (Stmt-F.Step op side a) s
+pub points_step : (symbols : Symbols) (op : StepOp) (side : Fix) (a : Expr) (s : Scope) → points symbols (tree.Step op side a) s ≡ points_of symbols (Stmt-F.Step op side a) s
 unfolding points clause
-points_step env op side a s = ap (λ part. part s) (ap (para-Stmt Part Part (points_of env) (clause_points env)) (sym (tree.rolls-Step op side a)) ∙ para-roll-Stmt Part Part (points_of env) (clause_points env) (Stmt-F.Step op side a))
+points_step symbols op side a s = ap (λ part. part s) (ap (para-Stmt Part Part (points_of symbols) (clause_points symbols)) (sym (tree.rolls-Step op side a)) ∙ para-roll-Stmt Part Part (points_of symbols) (clause_points symbols) (Stmt-F.Step op side a))
 
-pub points_eval : (env : Environment) (e : Expr) (s : Scope) → points env (tree.Eval e) s ≡ points_of env (Stmt-F.Eval e) s
+pub points_eval : (symbols : Symbols) (e : Expr) (s : Scope) → points symbols (tree.Eval e) s ≡ points_of symbols (Stmt-F.Eval e) s
 unfolding points clause
-points_eval env e s = ap (λ part. part s) (ap (para-Stmt Part Part (points_of env) (clause_points env)) (sym (tree.rolls-Eval e)) ∙ para-roll-Stmt Part Part (points_of env) (clause_points env) (Stmt-F.Eval e))
+points_eval symbols e s = ap (λ part. part s) (ap (para-Stmt Part Part (points_of symbols) (clause_points symbols)) (sym (tree.rolls-Eval e)) ∙ para-roll-Stmt Part Part (points_of symbols) (clause_points symbols) (Stmt-F.Eval e))
 
-pub points_super : (env : Environment) (at : ℕ) (given : List Expr) (s : Scope) → points env (tree.Super at given) s ≡ points_of env (Stmt-F.Super at given) s
+pub points_super : (symbols : Symbols) (at : ℕ) (given : List Expr) (s : Scope) → points symbols (tree.Super at given) s ≡ points_of symbols (Stmt-F.Super at given) s
 unfolding points clause
-points_super env at given s = ap (λ part. part s) (ap (para-Stmt Part Part (points_of env) (clause_points env)) (sym (tree.rolls-Super at given)) ∙ para-roll-Stmt Part Part (points_of env) (clause_points env) (Stmt-F.Super at given))
+points_super symbols at given s = ap (λ part. part s) (ap (para-Stmt Part Part (points_of symbols) (clause_points symbols)) (sym (tree.rolls-Super at given)) ∙ para-roll-Stmt Part Part (points_of symbols) (clause_points symbols) (Stmt-F.Super at given))
 
-pub points_if : (env : Environment) (c : Expr) (body : Stmt) (other : Option Stmt) (s : Scope) → points env (tree.If c body other) s ≡ points_of env (Stmt-F.If c (with_points env body) (option_map (with_points env) other)) s
+pub points_if : (symbols : Symbols) (c : Expr) (body : Stmt) (other : Option Stmt) (s : Scope) → points symbols (tree.If c body other) s ≡ points_of symbols (Stmt-F.If c (with_points symbols body) (option_map (with_points symbols) other)) s
 unfolding points clause
-points_if env c body None s = ap (λ part. part s) (ap (para-Stmt Part Part (points_of env) (clause_points env)) (sym (tree.rolls-If c body None)) ∙ para-roll-Stmt Part Part (points_of env) (clause_points env) (Stmt-F.If c body None))
-points_if env c body (Some k) s = ap (λ part. part s) (ap (para-Stmt Part Part (points_of env) (clause_points env)) (sym (tree.rolls-If c body (Some k))) ∙ para-roll-Stmt Part Part (points_of env) (clause_points env) (Stmt-F.If c body (Some k)))
+points_if symbols c body None s = ap (λ part. part s) (ap (para-Stmt Part Part (points_of symbols) (clause_points symbols)) (sym (tree.rolls-If c body None)) ∙ para-roll-Stmt Part Part (points_of symbols) (clause_points symbols) (Stmt-F.If c body None))
+points_if symbols c body (Some k) s = ap (λ part. part s) (ap (para-Stmt Part Part (points_of symbols) (clause_points symbols)) (sym (tree.rolls-If c body (Some k))) ∙ para-roll-Stmt Part Part (points_of symbols) (clause_points symbols) (Stmt-F.If c body (Some k)))
 
-pub points_while : (env : Environment) (c : Expr) (body : Stmt) (s : Scope) → points env (tree.While c body) s ≡ points_of env (Stmt-F.While c (with_points env body)) s
+pub points_while : (symbols : Symbols) (c : Expr) (body : Stmt) (s : Scope) → points symbols (tree.While c body) s ≡ points_of symbols (Stmt-F.While c (with_points symbols body)) s
 unfolding points clause
-points_while env c body s = ap (λ part. part s) (ap (para-Stmt Part Part (points_of env) (clause_points env)) (sym (tree.rolls-While c body)) ∙ para-roll-Stmt Part Part (points_of env) (clause_points env) (Stmt-F.While c body))
+points_while symbols c body s = ap (λ part. part s) (ap (para-Stmt Part Part (points_of symbols) (clause_points symbols)) (sym (tree.rolls-While c body)) ∙ para-roll-Stmt Part Part (points_of symbols) (clause_points symbols) (Stmt-F.While c body))
 
-pub points_do_while : (env : Environment) (body : Stmt) (c : Expr) (s : Scope) → points env (tree.DoWhile body c) s ≡ points_of env (Stmt-F.DoWhile (with_points env body) c) s
+pub points_do_while : (symbols : Symbols) (body : Stmt) (c : Expr) (s : Scope) → points symbols (tree.DoWhile body c) s ≡ points_of symbols (Stmt-F.DoWhile (with_points symbols body) c) s
 unfolding points clause
-points_do_while env body c s = ap (λ part. part s) (ap (para-Stmt Part Part (points_of env) (clause_points env)) (sym (tree.rolls-DoWhile body c)) ∙ para-roll-Stmt Part Part (points_of env) (clause_points env) (Stmt-F.DoWhile body c))
+points_do_while symbols body c s = ap (λ part. part s) (ap (para-Stmt Part Part (points_of symbols) (clause_points symbols)) (sym (tree.rolls-DoWhile body c)) ∙ para-roll-Stmt Part Part (points_of symbols) (clause_points symbols) (Stmt-F.DoWhile body c))
 
-pub points_for : (env : Environment) (start : List Stmt) (c : Option Expr) (update : List Stmt) (body : Stmt) (s : Scope) → points env (tree.For start c update body) s ≡ points_of env (Stmt-F.For (map (with_points env) start) c (map (with_points env) update) (with_points env body)) s
+pub points_for : (symbols : Symbols) (start : List Stmt) (c : Option Expr) (update : List Stmt) (body : Stmt) (s : Scope) → points symbols (tree.For start c update body) s ≡ points_of symbols (Stmt-F.For (map (with_points symbols) start) c (map (with_points symbols) update) (with_points symbols body)) s
 unfolding points clause
-points_for env start c update body s = ap (λ part. part s) (ap (para-Stmt Part Part (points_of env) (clause_points env)) (sym (tree.rolls-For start c update body)) ∙ para-roll-Stmt Part Part (points_of env) (clause_points env) (Stmt-F.For start c update body))
+points_for symbols start c update body s = ap (λ part. part s) (ap (para-Stmt Part Part (points_of symbols) (clause_points symbols)) (sym (tree.rolls-For start c update body)) ∙ para-roll-Stmt Part Part (points_of symbols) (clause_points symbols) (Stmt-F.For start c update body))
 
-pub points_return : (env : Environment) (at : ℕ) (e : Option Expr) (s : Scope) → points env (tree.Return at e) s ≡ points_of env (Stmt-F.Return at e) s
+pub points_return : (symbols : Symbols) (at : ℕ) (e : Option Expr) (s : Scope) → points symbols (tree.Return at e) s ≡ points_of symbols (Stmt-F.Return at e) s
 unfolding points clause
-points_return env at e s = ap (λ part. part s) (ap (para-Stmt Part Part (points_of env) (clause_points env)) (sym (tree.rolls-Return at e)) ∙ para-roll-Stmt Part Part (points_of env) (clause_points env) (Stmt-F.Return at e))
+points_return symbols at e s = ap (λ part. part s) (ap (para-Stmt Part Part (points_of symbols) (clause_points symbols)) (sym (tree.rolls-Return at e)) ∙ para-roll-Stmt Part Part (points_of symbols) (clause_points symbols) (Stmt-F.Return at e))
 
-pub points_break : (env : Environment) (at : ℕ) (s : Scope) → points env (tree.Break at) s ≡ points_of env (Stmt-F.Break at) s
+pub points_break : (symbols : Symbols) (at : ℕ) (s : Scope) → points symbols (tree.Break at) s ≡ points_of symbols (Stmt-F.Break at) s
 unfolding points clause
-points_break env at s = ap (λ part. part s) (ap (para-Stmt Part Part (points_of env) (clause_points env)) (sym (tree.rolls-Break at)) ∙ para-roll-Stmt Part Part (points_of env) (clause_points env) (Stmt-F.Break at))
+points_break symbols at s = ap (λ part. part s) (ap (para-Stmt Part Part (points_of symbols) (clause_points symbols)) (sym (tree.rolls-Break at)) ∙ para-roll-Stmt Part Part (points_of symbols) (clause_points symbols) (Stmt-F.Break at))
 
-pub points_continue : (env : Environment) (at : ℕ) (s : Scope) → points env (tree.Continue at) s ≡ points_of env (Stmt-F.Continue at) s
+pub points_continue : (symbols : Symbols) (at : ℕ) (s : Scope) → points symbols (tree.Continue at) s ≡ points_of symbols (Stmt-F.Continue at) s
 unfolding points clause
-points_continue env at s = ap (λ part. part s) (ap (para-Stmt Part Part (points_of env) (clause_points env)) (sym (tree.rolls-Continue at)) ∙ para-roll-Stmt Part Part (points_of env) (clause_points env) (Stmt-F.Continue at))
+points_continue symbols at s = ap (λ part. part s) (ap (para-Stmt Part Part (points_of symbols) (clause_points symbols)) (sym (tree.rolls-Continue at)) ∙ para-roll-Stmt Part Part (points_of symbols) (clause_points symbols) (Stmt-F.Continue at))
 
-pub points_throw : (env : Environment) (e : Expr) (s : Scope) → points env (tree.Throw e) s ≡ points_of env (Stmt-F.Throw e) s
+pub points_throw : (symbols : Symbols) (e : Expr) (s : Scope) → points symbols (tree.Throw e) s ≡ points_of symbols (Stmt-F.Throw e) s
 unfolding points clause
-points_throw env e s = ap (λ part. part s) (ap (para-Stmt Part Part (points_of env) (clause_points env)) (sym (tree.rolls-Throw e)) ∙ para-roll-Stmt Part Part (points_of env) (clause_points env) (Stmt-F.Throw e))
+points_throw symbols e s = ap (λ part. part s) (ap (para-Stmt Part Part (points_of symbols) (clause_points symbols)) (sym (tree.rolls-Throw e)) ∙ para-roll-Stmt Part Part (points_of symbols) (clause_points symbols) (Stmt-F.Throw e))
 
-pub points_try : (env : Environment) (body : Stmt) (clauses : List CatchTree) (last : Option Stmt) (s : Scope) → points env (tree.Try body clauses last) s ≡ points_of env (Stmt-F.Try (with_points env body) (map (clause_with_points env) clauses) (option_map (with_points env) last)) s
+pub points_try : (symbols : Symbols) (body : Stmt) (clauses : List CatchTree) (last : Option Stmt) (s : Scope) → points symbols (tree.Try body clauses last) s ≡ points_of symbols (Stmt-F.Try (with_points symbols body) (map (clause_with_points symbols) clauses) (option_map (with_points symbols) last)) s
 unfolding points clause
-points_try env body clauses None s = ap (λ part. part s) (ap (para-Stmt Part Part (points_of env) (clause_points env)) (sym (tree.rolls-Try body clauses None)) ∙ para-roll-Stmt Part Part (points_of env) (clause_points env) (Stmt-F.Try body clauses None))
-points_try env body clauses (Some k) s = ap (λ part. part s) (ap (para-Stmt Part Part (points_of env) (clause_points env)) (sym (tree.rolls-Try body clauses (Some k))) ∙ para-roll-Stmt Part Part (points_of env) (clause_points env) (Stmt-F.Try body clauses (Some k)))
+points_try symbols body clauses None s = ap (λ part. part s) (ap (para-Stmt Part Part (points_of symbols) (clause_points symbols)) (sym (tree.rolls-Try body clauses None)) ∙ para-roll-Stmt Part Part (points_of symbols) (clause_points symbols) (Stmt-F.Try body clauses None))
+points_try symbols body clauses (Some k) s = ap (λ part. part s) (ap (para-Stmt Part Part (points_of symbols) (clause_points symbols)) (sym (tree.rolls-Try body clauses (Some k))) ∙ para-roll-Stmt Part Part (points_of symbols) (clause_points symbols) (Stmt-F.Try body clauses (Some k)))
 
-pub points_clause : (env : Environment) (c : CatchTree) (s : Scope) → clause env c s ≡ points env c.body (with_local s c.name (caught_type env c.class))
+pub points_clause : (symbols : Symbols) (c : CatchTree) (s : Scope) → clause symbols c s ≡ points symbols c.body (with_local s c.name (exception_type symbols.names c.class.name))
 unfolding points clause
-points_clause env c s = ap (λ part. part s) (ap (para-CatchTree Part Part (points_of env) (clause_points env)) (sym (roll-out-CatchTree c)) ∙ para-roll-CatchTree Part Part (points_of env) (clause_points env) (out-CatchTree c))
+points_clause symbols c s = ap (λ part. part s) (ap (para-CatchTree Part Part (points_of symbols) (clause_points symbols)) (sym (roll-out-CatchTree c)) ∙ para-roll-CatchTree Part Part (points_of symbols) (clause_points symbols) (out-CatchTree c))
 
--- ---- the scope behind each kind of statement
+-- ---- the scope after each kind of statement
 
-pub behind_empty : (env : Environment) (s : Scope) → behind env tree.Empty s ≡ s
-behind_empty env s = rw (tree.outs-Empty) refl
+pub behind_empty : (symbols : Symbols) (s : Scope) → behind symbols tree.Empty s ≡ s
+behind_empty symbols s = rw (tree.outs-Empty) refl
 
-pub behind_block : (env : Environment) (all : List Stmt) (s : Scope) → behind env (tree.Block all) s ≡ s
-behind_block env all s = rw (tree.outs-Block all) refl
+pub behind_block : (symbols : Symbols) (all : List Stmt) (s : Scope) → behind symbols (tree.Block all) s ≡ s
+behind_block symbols all s = rw (tree.outs-Block all) refl
 
-pub behind_assign : (env : Environment) (a : Expr) (op : AssignOp) (e : Expr) (s : Scope) → behind env (tree.Assign a op e) s ≡ s
-behind_assign env a op e s = rw (tree.outs-Assign a op e) refl
+pub behind_assign : (symbols : Symbols) (a : Expr) (op : AssignOp) (e : Expr) (s : Scope) → behind symbols (tree.Assign a op e) s ≡ s
+behind_assign symbols a op e s = rw (tree.outs-Assign a op e) refl
 
-pub behind_step : (env : Environment) (op : StepOp) (side : Fix) (a : Expr) (s : Scope) → behind env (tree.Step op side a) s ≡ s
-behind_step env op side a s = rw (tree.outs-Step op side a) refl
+pub behind_step : (symbols : Symbols) (op : StepOp) (side : Fix) (a : Expr) (s : Scope) → behind symbols (tree.Step op side a) s ≡ s
+behind_step symbols op side a s = rw (tree.outs-Step op side a) refl
 
-pub behind_eval : (env : Environment) (e : Expr) (s : Scope) → behind env (tree.Eval e) s ≡ s
-behind_eval env e s = rw (tree.outs-Eval e) refl
+pub behind_eval : (symbols : Symbols) (e : Expr) (s : Scope) → behind symbols (tree.Eval e) s ≡ s
+behind_eval symbols e s = rw (tree.outs-Eval e) refl
 
-pub behind_super : (env : Environment) (at : ℕ) (given : List Expr) (s : Scope) → behind env (tree.Super at given) s ≡ s
-behind_super env at given s = rw (tree.outs-Super at given) refl
+pub behind_super : (symbols : Symbols) (at : ℕ) (given : List Expr) (s : Scope) → behind symbols (tree.Super at given) s ≡ s
+behind_super symbols at given s = rw (tree.outs-Super at given) refl
 
-pub behind_if : (env : Environment) (c : Expr) (body : Stmt) (other : Option Stmt) (s : Scope) → behind env (tree.If c body other) s ≡ s
-behind_if env c body other s = rw (tree.outs-If c body other) refl
+pub behind_if : (symbols : Symbols) (c : Expr) (body : Stmt) (other : Option Stmt) (s : Scope) → behind symbols (tree.If c body other) s ≡ s
+behind_if symbols c body other s = rw (tree.outs-If c body other) refl
 
-pub behind_while : (env : Environment) (c : Expr) (body : Stmt) (s : Scope) → behind env (tree.While c body) s ≡ s
-behind_while env c body s = rw (tree.outs-While c body) refl
+pub behind_while : (symbols : Symbols) (c : Expr) (body : Stmt) (s : Scope) → behind symbols (tree.While c body) s ≡ s
+behind_while symbols c body s = rw (tree.outs-While c body) refl
 
-pub behind_do_while : (env : Environment) (body : Stmt) (c : Expr) (s : Scope) → behind env (tree.DoWhile body c) s ≡ s
-behind_do_while env body c s = rw (tree.outs-DoWhile body c) refl
+pub behind_do_while : (symbols : Symbols) (body : Stmt) (c : Expr) (s : Scope) → behind symbols (tree.DoWhile body c) s ≡ s
+behind_do_while symbols body c s = rw (tree.outs-DoWhile body c) refl
 
-pub behind_for : (env : Environment) (start : List Stmt) (c : Option Expr) (update : List Stmt) (body : Stmt) (s : Scope) → behind env (tree.For start c update body) s ≡ s
-behind_for env start c update body s = rw (tree.outs-For start c update body) refl
+pub behind_for : (symbols : Symbols) (start : List Stmt) (c : Option Expr) (update : List Stmt) (body : Stmt) (s : Scope) → behind symbols (tree.For start c update body) s ≡ s
+behind_for symbols start c update body s = rw (tree.outs-For start c update body) refl
 
-pub behind_return : (env : Environment) (at : ℕ) (e : Option Expr) (s : Scope) → behind env (tree.Return at e) s ≡ s
-behind_return env at e s = rw (tree.outs-Return at e) refl
+pub behind_return : (symbols : Symbols) (at : ℕ) (e : Option Expr) (s : Scope) → behind symbols (tree.Return at e) s ≡ s
+behind_return symbols at e s = rw (tree.outs-Return at e) refl
 
-pub behind_break : (env : Environment) (at : ℕ) (s : Scope) → behind env (tree.Break at) s ≡ s
-behind_break env at s = rw (tree.outs-Break at) refl
+pub behind_break : (symbols : Symbols) (at : ℕ) (s : Scope) → behind symbols (tree.Break at) s ≡ s
+behind_break symbols at s = rw (tree.outs-Break at) refl
 
-pub behind_continue : (env : Environment) (at : ℕ) (s : Scope) → behind env (tree.Continue at) s ≡ s
-behind_continue env at s = rw (tree.outs-Continue at) refl
+pub behind_continue : (symbols : Symbols) (at : ℕ) (s : Scope) → behind symbols (tree.Continue at) s ≡ s
+behind_continue symbols at s = rw (tree.outs-Continue at) refl
 
-pub behind_throw : (env : Environment) (e : Expr) (s : Scope) → behind env (tree.Throw e) s ≡ s
-behind_throw env e s = rw (tree.outs-Throw e) refl
+pub behind_throw : (symbols : Symbols) (e : Expr) (s : Scope) → behind symbols (tree.Throw e) s ≡ s
+behind_throw symbols e s = rw (tree.outs-Throw e) refl
 
-pub behind_try : (env : Environment) (body : Stmt) (clauses : List CatchTree) (last : Option Stmt) (s : Scope) → behind env (tree.Try body clauses last) s ≡ s
-behind_try env body clauses last s = rw (tree.outs-Try body clauses last) refl
+pub behind_try : (symbols : Symbols) (body : Stmt) (clauses : List CatchTree) (last : Option Stmt) (s : Scope) → behind symbols (tree.Try body clauses last) s ≡ s
+behind_try symbols body clauses last s = rw (tree.outs-Try body clauses last) refl
 
-pub behind_local : (env : Environment) (t : LocalTree) (s : Scope) → behind env (tree.Local t) s ≡ with_local s t.name (local_type env t)
-behind_local env t s = rw (tree.outs-Local t) refl
+pub behind_local : (symbols : Symbols) (t : LocalTree) (s : Scope) → behind symbols (tree.Local t) s ≡ with_local s t.name (declared_type symbols.names t.ty)
+behind_local symbols t s = rw (tree.outs-Local t) refl
 
 pub ruleset behind_kinds = (
   behind_empty,
@@ -162,47 +161,47 @@ pub ruleset behind_kinds = (
 
 -- ---- statements in order
 
-pub in_order_step : (env : Environment) (k : Stmt) (ks : List Stmt) (s : Scope) → in_order env (map (with_points env) (k ∷ ks)) s ≡ points env k s ++ in_order env (map (with_points env) ks) (behind env k s)
+pub in_order_step : (symbols : Symbols) (k : Stmt) (ks : List Stmt) (s : Scope) → in_order symbols (map (with_points symbols) (k ∷ ks)) s ≡ points symbols k s ++ in_order symbols (map (with_points symbols) ks) (behind symbols k s)
 unfolding in_order
-in_order_step env k ks s = refl
+in_order_step symbols k ks s = refl
 
-pub in_order_end : (env : Environment) (s : Scope) → in_order env [] s ≡ []
+pub in_order_end : (symbols : Symbols) (s : Scope) → in_order symbols [] s ≡ []
 unfolding in_order
-in_order_end env s = refl
+in_order_end symbols s = refl
 
-pub behind_all_step : (env : Environment) (k : Stmt) (ks : List Stmt) (s : Scope) → behind_all env (k ∷ ks) s ≡ behind_all env ks (behind env k s)
+pub behind_all_step : (symbols : Symbols) (k : Stmt) (ks : List Stmt) (s : Scope) → behind_all symbols (k ∷ ks) s ≡ behind_all symbols ks (behind symbols k s)
 unfolding behind_all
-behind_all_step env k ks s = refl
+behind_all_step symbols k ks s = refl
 
-pub behind_all_end : (env : Environment) (s : Scope) → behind_all env [] s ≡ s
+pub behind_all_end : (symbols : Symbols) (s : Scope) → behind_all symbols [] s ≡ s
 unfolding behind_all
-behind_all_end env s = refl
+behind_all_end symbols s = refl
 
 -- ---- a `for` and a `try`, by its parts alone
 
-same_statements : (env : Environment) (ks : List Stmt) → map (λ k. k.0) (map (with_points env) ks) ≡ ks
-same_statements env [] = refl
-same_statements env (k ∷ ks) = ap (λ more. k ∷ more) (same_statements env ks)
+same_statements : (symbols : Symbols) (ks : List Stmt) → map (λ k. k.0) (map (with_points symbols) ks) ≡ ks
+same_statements symbols [] = refl
+same_statements symbols (k ∷ ks) = ap (λ more. k ∷ more) (same_statements symbols ks)
 
-pub points_for_parts : (env : Environment) (start : List Stmt) (c : Option Expr) (update : List Stmt) (body : Stmt) (s : Scope)
-    → points env (tree.For start c update body) s
-    ≡ in_order env (map (with_points env) start) s ++ turn_points env c (map (with_points env) update) (with_points env body) (behind_all env start s)
-points_for_parts env start c update body s =
-    points_for env start c update body s
-    ∙ ap (λ ks. in_order env (map (with_points env) start) s ++ turn_points env c (map (with_points env) update) (with_points env body) (behind_all env ks s)) (same_statements env start)
+pub points_for_parts : (symbols : Symbols) (start : List Stmt) (c : Option Expr) (update : List Stmt) (body : Stmt) (s : Scope)
+    → points symbols (tree.For start c update body) s
+    ≡ in_order symbols (map (with_points symbols) start) s ++ turn_points symbols c (map (with_points symbols) update) (with_points symbols body) (behind_all symbols start s)
+points_for_parts symbols start c update body s =
+    points_for symbols start c update body s
+    ∙ ap (λ ks. in_order symbols (map (with_points symbols) start) s ++ turn_points symbols c (map (with_points symbols) update) (with_points symbols body) (behind_all symbols ks s)) (same_statements symbols start)
 
-caught_classes : (env : Environment) (cs : List CatchTree) → caught env (map (clause_with_points env) cs) ≡ classes_of env cs
-caught_classes env [] = refl
-caught_classes env (c ∷ cs) = grind (arith, common_steps, caught_classes env cs)
+caught_classes : (symbols : Symbols) (cs : List CatchTree) → caught symbols (map (clause_with_points symbols) cs) ≡ classes_of symbols cs
+caught_classes symbols [] = refl
+caught_classes symbols (c ∷ cs) = grind (arith, common_steps, caught_classes symbols cs)
 
-each_clause_points : (env : Environment) (cs : List CatchTree) (s : Scope) → flat_map (λ c. c.1 s) (map (clause_with_points env) cs) ≡ clauses_points env cs s
-each_clause_points env [] s = refl
-each_clause_points env (c ∷ cs) s = ap (λ more. clause env c s ++ more) (each_clause_points env cs s)
+each_clause_points : (symbols : Symbols) (cs : List CatchTree) (s : Scope) → flat_map (λ c. c.1 s) (map (clause_with_points symbols) cs) ≡ clauses_points symbols cs s
+each_clause_points symbols [] s = refl
+each_clause_points symbols (c ∷ cs) s = ap (λ more. clause symbols c s ++ more) (each_clause_points symbols cs s)
 
-pub points_try_parts : (env : Environment) (body : Stmt) (clauses : List CatchTree) (last : Option Stmt) (s : Scope)
-    → points env (tree.Try body clauses last) s
-    ≡ uncaught env (classes_of env clauses) (points env body s) ++ (clauses_points env clauses s ++ branch (option_map (with_points env) last) s)
-points_try_parts env body clauses last s = points_try env body clauses last s ∙ rw (caught_classes env clauses, each_clause_points env clauses s) refl
+pub points_try_parts : (symbols : Symbols) (body : Stmt) (clauses : List CatchTree) (last : Option Stmt) (s : Scope)
+    → points symbols (tree.Try body clauses last) s
+    ≡ uncaught symbols (classes_of symbols clauses) (points symbols body s) ++ (clauses_points symbols clauses s ++ branch (option_map (with_points symbols) last) s)
+points_try_parts symbols body clauses last s = points_try symbols body clauses last s ∙ rw (caught_classes symbols clauses, each_clause_points symbols clauses s) refl
 
 pub ruleset points_of_kinds = (
   points_empty,
@@ -225,11 +224,11 @@ pub ruleset points_of_kinds = (
 
 -- ---- parameters
 
-pub with_params_step : (env : Environment) (p : ParamTree) (ps : List ParamTree) (s : Scope)
-    → with_params env (p ∷ ps) s ≡ with_params env ps (with_local s p.name (declared_type env.symbols.names p.ty))
+pub with_params_step : (symbols : Symbols) (p : ParamTree) (ps : List ParamTree) (s : Scope)
+    → with_params symbols (p ∷ ps) s ≡ with_params symbols ps (with_local s p.name (declared_type symbols.names p.ty))
 unfolding with_params
-with_params_step env p ps s = refl
+with_params_step symbols p ps s = refl
 
-pub with_params_end : (env : Environment) (s : Scope) → with_params env [] s ≡ s
+pub with_params_end : (symbols : Symbols) (s : Scope) → with_params symbols [] s ≡ s
 unfolding with_params
-with_params_end env s = refl
+with_params_end symbols s = refl

@@ -1,12 +1,13 @@
 -- Which classes of exceptions are checked, and which are handled (JLS 11.1.1, 11.2.3).
-use Rattle.std.specs.Prelude.{ℕ, ◌==◌, Bool, not, ◌&&◌, List}
+use Rattle.std.specs.Prelude.{ℕ, ◌==◌, Bool, List}
 use Rattle.std.specs.List.{list_any, list_all}
+use Rattle.core_tree.specs.Types.{is_checked_by}
 use Rattle.java_names.specs.declared.symbol.Symbols.{Symbols}
 use Rattle.java_names.specs.Lookups.{line_of, is_below}
 
--- Throwable and the classes below it, other than RuntimeException, Error and those below these
+-- the class is checked
 abbrev pub is_checked : Symbols → ℕ → Bool
-is_checked s c = is_below s c 1 && (not (is_below s c 3) && not (is_below s c 4))
+is_checked s = is_checked_by (is_below s)
 
 -- class c or one of its superclasses is among these
 abbrev pub is_covered : Symbols → List ℕ → ℕ → Bool

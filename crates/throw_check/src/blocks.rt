@@ -1,10 +1,11 @@
 //! Blocks and `if` (JLS 14.2, 14.9).
 
 ghost use Rattle.std.specs.Prelude.{◌≡◌, ◌++◌, OnOk, map, option_map};
-ghost use Rattle.throw_check.specs.Points.{expr_points, types_env};
+ghost use Rattle.throw_check.specs.Points.{expr_points};
 ghost use Rattle.throw_check.specs.Statements as spec;
 ghost use Rattle.throw_check.specs.Statements.{in_order, points, with_points};
-ghost use Rattle.throw_check.specs.Walks.{Handles, faults_left};
+ghost use Rattle.java_names.specs.Refusals.{Allows};
+ghost use Rattle.throw_check.specs.Walks.{faults_left};
 
 use crate::handlers::Handlers;
 use crate::jumps::evaluate;
@@ -30,11 +31,11 @@ pub fn block(
 ) -> Result<(), CheckError>
     ensures scope { OnOk result (scope.new ≡ scope.old) }
     ensures handlers { OnOk result (handlers.new ≡ handlers.old) }
-    ensures handled { Handles (faults_left symbols.now handlers.old (in_order (types_env symbols.now) (map (with_points (types_env symbols.now)) list.now) scope.old)) result }
+    ensures handled { Allows (faults_left symbols.now handlers.old (in_order symbols.now (map (with_points symbols.now) list.now) scope.old)) result }
 {
-    let place = here(scope);
+    let entry = here(scope);
     body(alloc, symbols, scope, handlers, list)?;
-    leave(scope, place);
+    leave(scope, entry);
     Ok(())
 }
 
@@ -53,11 +54,11 @@ pub fn inside(
 ) -> Result<(), CheckError>
     ensures scope { OnOk result (scope.new ≡ scope.old) }
     ensures handlers { OnOk result (handlers.new ≡ handlers.old) }
-    ensures handled { Handles (faults_left symbols.now handlers.old (points (types_env symbols.now) s.now scope.old)) result }
+    ensures handled { Allows (faults_left symbols.now handlers.old (points symbols.now s.now scope.old)) result }
 {
-    let place = here(scope);
+    let entry = here(scope);
     stmt(alloc, symbols, scope, handlers, s)?;
-    leave(scope, place);
+    leave(scope, entry);
     Ok(())
 }
 
@@ -76,7 +77,7 @@ pub fn branch(
 ) -> Result<(), CheckError>
     ensures scope { OnOk result (scope.new ≡ scope.old) }
     ensures handlers { OnOk result (handlers.new ≡ handlers.old) }
-    ensures handled { Handles (faults_left symbols.now handlers.old (spec.branch (option_map (with_points (types_env symbols.now)) s.now) scope.old)) result }
+    ensures handled { Allows (faults_left symbols.now handlers.old (spec.branch (option_map (with_points symbols.now) s.now) scope.old)) result }
 {
     match s {
         Some(s) => inside(alloc, symbols, scope, handlers, s.get()),
@@ -84,7 +85,8 @@ pub fn branch(
     }
 }
 
-/// `if (c) s else t` or `if (c) s`. It is handed the whole statement beside its parts, so that they are seen to be smaller.
+/// `if (c) s else t` or `if (c) s`. It is handed the whole statement beside its parts, so that they are seen to be
+/// smaller.
 ///
 /// # Errors
 /// As `stmt`.
@@ -103,7 +105,7 @@ pub fn choice(
     requires { whole.now ≡ Stmt.If test.now then.now other.now }
     ensures scope { OnOk result (scope.new ≡ scope.old) }
     ensures handlers { OnOk result (handlers.new ≡ handlers.old) }
-    ensures handled { Handles (faults_left symbols.now handlers.old (expr_points (types_env symbols.now) scope.old test.now ++ (points (types_env symbols.now) then.now scope.old ++ spec.branch (option_map (with_points (types_env symbols.now)) other.now) scope.old))) result }
+    ensures handled { Allows (faults_left symbols.now handlers.old (expr_points symbols.now scope.old test.now ++ (points symbols.now then.now scope.old ++ spec.branch (option_map (with_points symbols.now) other.now) scope.old))) result }
 {
     evaluate(alloc, symbols, scope, handlers, test)?;
     inside(alloc, symbols, scope, handlers, then)?;

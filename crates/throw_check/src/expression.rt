@@ -3,16 +3,16 @@
 ghost use Rattle.std.specs.Prelude.{◌≡◌, [], ◌++◌, IfOk, flat_map, map};
 ghost use Rattle.std.specs.Option.{option_map_or};
 ghost use Rattle.java_syntax.specs.declared.expression.Expr.TheOpen.{Expr-F};
-ghost use Rattle.java_exprs.specs.Checks.{attr, attr_at};
-ghost use Rattle.throw_check.specs.Points.{expr_points, points_here, types_env};
+ghost use Rattle.java_denotes.specs.Known.{known_of, known_at};
+ghost use Rattle.throw_check.specs.Points.{expr_points, points_here};
 ghost use Rattle.throw_check.specs.Statements.{optional_points};
-ghost use Rattle.throw_check.specs.Walks.{Handles, IsKnown, faults_left};
+ghost use Rattle.java_names.specs.Refusals.{Allows};
+ghost use Rattle.throw_check.specs.Walks.{faults_left};
 
+use crate::calls;
 use crate::handlers::Handlers;
-use crate::known::Known;
-use crate::{calls, names, types};
 use core_tree::Ty;
-use java_exprs::Denotation;
+use java_denotes::{Known, names, types};
 use java_names::{Scope, Symbols};
 use java_syntax::{BinaryOp, CheckError, Expr, Ident, TypeTree, UnaryOp};
 use std::alloc::Global;
@@ -21,9 +21,9 @@ use std::alloc::Global;
 ///
 /// # Errors
 /// `Fault` of rule 23 at the first token of a call or a `new` in it that may throw an exception that breaks the rule.
-/// `OutOfMemory` where there is no memory left.
+/// `OutOfMemory` where memory runs out.
 #[cycle(expressions)]
-#[tactic(auto, using(java_exprs::proofs::AttrLemmas::attrs, crate::proofs::PointLemmas::points, crate::proofs::LeftLemmas::joins))]
+#[tactic(auto, using(java_denotes::proofs::KnownLemmas::nodes, crate::proofs::PointLemmas::points, crate::proofs::LeftLemmas::joins))]
 pub fn expr(
     alloc: Global,
     symbols: &Symbols,
@@ -31,8 +31,8 @@ pub fn expr(
     handlers: &Handlers,
     e: &Expr,
 ) -> Result<Known, CheckError>
-    ensures known { IfOk result (λ k. IsKnown (attr (types_env symbols.now) scope.now e.now) k) }
-    ensures handled { Handles (faults_left symbols.now handlers.now (expr_points (types_env symbols.now) scope.now e.now)) result }
+    ensures known { IfOk result (λ k. k ≡ known_of symbols.now scope.now e.now) }
+    ensures handled { Allows (faults_left symbols.now handlers.now (expr_points symbols.now scope.now e.now)) result }
 {
     match e {
         Expr::Number(at, _) => Ok(Known::value(*at, Ty::Int)),
@@ -91,8 +91,8 @@ fn paren(
     at: u32,
     e: &Expr,
 ) -> Result<Known, CheckError>
-    ensures known { IfOk result (λ k. IsKnown (attr_at (types_env symbols.now) scope.now (Expr-F.Paren at (attr (types_env symbols.now) scope.now e.now))) k) }
-    ensures handled { Handles (faults_left symbols.now handlers.now (expr_points (types_env symbols.now) scope.now e.now)) result }
+    ensures known { IfOk result (λ k. k ≡ known_at symbols.now scope.now (Expr-F.Paren at (known_of symbols.now scope.now e.now))) }
+    ensures handled { Allows (faults_left symbols.now handlers.now (expr_points symbols.now scope.now e.now)) result }
 {
     let e = expr(alloc, symbols, scope, handlers, e)?;
     Ok(Known {
@@ -111,8 +111,8 @@ fn field(
     o: &Expr,
     f: &Ident,
 ) -> Result<Known, CheckError>
-    ensures known { IfOk result (λ k. IsKnown (attr_at (types_env symbols.now) scope.now (Expr-F.Field (attr (types_env symbols.now) scope.now o.now) f.now)) k) }
-    ensures handled { Handles (faults_left symbols.now handlers.now (expr_points (types_env symbols.now) scope.now o.now)) result }
+    ensures known { IfOk result (λ k. k ≡ known_at symbols.now scope.now (Expr-F.Field (known_of symbols.now scope.now o.now) f.now)) }
+    ensures handled { Allows (faults_left symbols.now handlers.now (expr_points symbols.now scope.now o.now)) result }
 {
     let o = expr(alloc, symbols, scope, handlers, o)?;
     let denotes = names::field(alloc, symbols, &o, f)?;
@@ -130,8 +130,8 @@ fn unary(
     op: UnaryOp,
     e: &Expr,
 ) -> Result<Known, CheckError>
-    ensures known { IfOk result (λ k. IsKnown (attr_at (types_env symbols.now) scope.now (Expr-F.Unary at op (attr (types_env symbols.now) scope.now e.now))) k) }
-    ensures handled { Handles (faults_left symbols.now handlers.now (expr_points (types_env symbols.now) scope.now e.now)) result }
+    ensures known { IfOk result (λ k. k ≡ known_at symbols.now scope.now (Expr-F.Unary at op (known_of symbols.now scope.now e.now))) }
+    ensures handled { Allows (faults_left symbols.now handlers.now (expr_points symbols.now scope.now e.now)) result }
 {
     expr(alloc, symbols, scope, handlers, e)?;
     Ok(Known::value(at, types::unary(op)))
@@ -148,8 +148,8 @@ fn cast(
     ty: &TypeTree,
     e: &Expr,
 ) -> Result<Known, CheckError>
-    ensures known { IfOk result (λ k. IsKnown (attr_at (types_env symbols.now) scope.now (Expr-F.Cast at ty.now (attr (types_env symbols.now) scope.now e.now))) k) }
-    ensures handled { Handles (faults_left symbols.now handlers.now (expr_points (types_env symbols.now) scope.now e.now)) result }
+    ensures known { IfOk result (λ k. k ≡ known_at symbols.now scope.now (Expr-F.Cast at ty.now (known_of symbols.now scope.now e.now))) }
+    ensures handled { Allows (faults_left symbols.now handlers.now (expr_points symbols.now scope.now e.now)) result }
 {
     expr(alloc, symbols, scope, handlers, e)?;
     let denotes = types::spelled(alloc, symbols, ty)?;
@@ -166,8 +166,8 @@ fn instance_of(
     e: &Expr,
     ty: &TypeTree,
 ) -> Result<Known, CheckError>
-    ensures known { IfOk result (λ k. IsKnown (attr_at (types_env symbols.now) scope.now (Expr-F.InstanceOf (attr (types_env symbols.now) scope.now e.now) ty.now)) k) }
-    ensures handled { Handles (faults_left symbols.now handlers.now (expr_points (types_env symbols.now) scope.now e.now)) result }
+    ensures known { IfOk result (λ k. k ≡ known_at symbols.now scope.now (Expr-F.InstanceOf (known_of symbols.now scope.now e.now) ty.now)) }
+    ensures handled { Allows (faults_left symbols.now handlers.now (expr_points symbols.now scope.now e.now)) result }
 {
     let e = expr(alloc, symbols, scope, handlers, e)?;
     Ok(Known::value(e.at, Ty::Bool))
@@ -175,7 +175,7 @@ fn instance_of(
 
 // `o.m(a, b)`
 #[cycle(expressions)]
-#[tactic(auto, using(crate::proofs::NodeLemmas::behind_known, crate::proofs::LeftLemmas::joins))]
+#[tactic(auto, using(crate::proofs::LeftLemmas::joins))]
 fn method(
     alloc: Global,
     symbols: &Symbols,
@@ -187,8 +187,8 @@ fn method(
     xs: &[Expr],
 ) -> Result<Known, CheckError>
     requires { whole.now ≡ Expr.Method o.now m.now xs.now }
-    ensures known { IfOk result (λ k. IsKnown (attr_at (types_env symbols.now) scope.now (Expr-F.Method (attr (types_env symbols.now) scope.now o.now) m.now (map (attr (types_env symbols.now) scope.now) xs.now))) k) }
-    ensures handled { Handles (faults_left symbols.now handlers.now ((expr_points (types_env symbols.now) scope.now o.now ++ flat_map (expr_points (types_env symbols.now) scope.now) xs.now) ++ points_here (types_env symbols.now) scope.now (Expr-F.Method (attr (types_env symbols.now) scope.now o.now) m.now (map (attr (types_env symbols.now) scope.now) xs.now)))) result }
+    ensures known { IfOk result (λ k. k ≡ known_at symbols.now scope.now (Expr-F.Method (known_of symbols.now scope.now o.now) m.now (map (known_of symbols.now scope.now) xs.now))) }
+    ensures handled { Allows (faults_left symbols.now handlers.now ((expr_points symbols.now scope.now o.now ++ flat_map (expr_points symbols.now scope.now) xs.now) ++ points_here symbols.now scope.now (Expr-F.Method (known_of symbols.now scope.now o.now) m.now (map (known_of symbols.now scope.now) xs.now)))) result }
 {
     let o = expr(alloc, symbols, scope, handlers, o)?;
     each(alloc, symbols, scope, handlers, xs)?;
@@ -208,8 +208,8 @@ fn element(
     i: &Expr,
 ) -> Result<Known, CheckError>
     requires { whole.now ≡ Expr.Element a.now i.now }
-    ensures known { IfOk result (λ k. IsKnown (attr_at (types_env symbols.now) scope.now (Expr-F.Element (attr (types_env symbols.now) scope.now a.now) (attr (types_env symbols.now) scope.now i.now))) k) }
-    ensures handled { Handles (faults_left symbols.now handlers.now (expr_points (types_env symbols.now) scope.now a.now ++ expr_points (types_env symbols.now) scope.now i.now)) result }
+    ensures known { IfOk result (λ k. k ≡ known_at symbols.now scope.now (Expr-F.Element (known_of symbols.now scope.now a.now) (known_of symbols.now scope.now i.now))) }
+    ensures handled { Allows (faults_left symbols.now handlers.now (expr_points symbols.now scope.now a.now ++ expr_points symbols.now scope.now i.now)) result }
 {
     let a = expr(alloc, symbols, scope, handlers, a)?;
     expr(alloc, symbols, scope, handlers, i)?;
@@ -231,8 +231,8 @@ fn binary(
     r: &Expr,
 ) -> Result<Known, CheckError>
     requires { whole.now ≡ Expr.Binary op l.now r.now }
-    ensures known { IfOk result (λ k. IsKnown (attr_at (types_env symbols.now) scope.now (Expr-F.Binary op (attr (types_env symbols.now) scope.now l.now) (attr (types_env symbols.now) scope.now r.now))) k) }
-    ensures handled { Handles (faults_left symbols.now handlers.now (expr_points (types_env symbols.now) scope.now l.now ++ expr_points (types_env symbols.now) scope.now r.now)) result }
+    ensures known { IfOk result (λ k. k ≡ known_at symbols.now scope.now (Expr-F.Binary op (known_of symbols.now scope.now l.now) (known_of symbols.now scope.now r.now))) }
+    ensures handled { Allows (faults_left symbols.now handlers.now (expr_points symbols.now scope.now l.now ++ expr_points symbols.now scope.now r.now)) result }
 {
     let l = expr(alloc, symbols, scope, handlers, l)?;
     let r = expr(alloc, symbols, scope, handlers, r)?;
@@ -256,8 +256,8 @@ fn conditional(
     b: &Expr,
 ) -> Result<Known, CheckError>
     requires { whole.now ≡ Expr.Conditional c.now a.now b.now }
-    ensures known { IfOk result (λ k. IsKnown (attr_at (types_env symbols.now) scope.now (Expr-F.Conditional (attr (types_env symbols.now) scope.now c.now) (attr (types_env symbols.now) scope.now a.now) (attr (types_env symbols.now) scope.now b.now))) k) }
-    ensures handled { Handles (faults_left symbols.now handlers.now (expr_points (types_env symbols.now) scope.now c.now ++ (expr_points (types_env symbols.now) scope.now a.now ++ expr_points (types_env symbols.now) scope.now b.now))) result }
+    ensures known { IfOk result (λ k. k ≡ known_at symbols.now scope.now (Expr-F.Conditional (known_of symbols.now scope.now c.now) (known_of symbols.now scope.now a.now) (known_of symbols.now scope.now b.now))) }
+    ensures handled { Allows (faults_left symbols.now handlers.now (expr_points symbols.now scope.now c.now ++ (expr_points symbols.now scope.now a.now ++ expr_points symbols.now scope.now b.now))) result }
 {
     let c = expr(alloc, symbols, scope, handlers, c)?;
     let a = expr(alloc, symbols, scope, handlers, a)?;
@@ -268,7 +268,7 @@ fn conditional(
     })
 }
 
-/// Sees that all checked exceptions are handled that these expressions may throw, as the arguments of a call.
+/// Checks that all checked exceptions are handled that these expressions may throw, as the arguments of a call.
 ///
 /// # Errors
 /// As `expr`, for one of them.
@@ -281,7 +281,7 @@ pub fn each(
     handlers: &Handlers,
     list: &[Expr],
 ) -> Result<(), CheckError>
-    ensures { Handles (faults_left symbols.now handlers.now (flat_map (expr_points (types_env symbols.now) scope.now) list.now)) result }
+    ensures { Allows (faults_left symbols.now handlers.now (flat_map (expr_points symbols.now scope.now) list.now)) result }
 {
     for e in list {
         expr(alloc, symbols, scope, handlers, e)?;
@@ -289,7 +289,7 @@ pub fn each(
     Ok(())
 }
 
-/// Sees that all checked exceptions are handled that an expression may throw, which may be left out.
+/// Checks that all checked exceptions are handled that an expression may throw, which may be left out.
 ///
 /// # Errors
 /// As `expr`, where there is one.
@@ -301,7 +301,7 @@ pub fn optional(
     handlers: &Handlers,
     e: &Option<Expr>,
 ) -> Result<(), CheckError>
-    ensures { Handles (faults_left symbols.now handlers.now (optional_points (types_env symbols.now) scope.now e.now)) result }
+    ensures { Allows (faults_left symbols.now handlers.now (optional_points symbols.now scope.now e.now)) result }
 {
     match e {
         Some(e) => {

@@ -1,16 +1,16 @@
 //! Rule 23 of a file (JLS 11.2.3).
 
-ghost use Rattle.std.specs.Prelude.{◌≡◌, ◌+◌, [], IfErr, IfOk, flat_map};
-ghost use Rattle.java_types.specs.Files.{first_class};
-ghost use Rattle.throw_check.specs.Points.{types_env};
+ghost use Rattle.std.specs.Prelude.{◌≡◌, [], flat_map};
+ghost use Rattle.core_tree.specs.BuiltIn.{first_class};
 ghost use Rattle.throw_check.specs.Files.{class_faults, faults_from, faults_of, made_faults, member_faults};
-ghost use Rattle.throw_check.specs.Walks.{Handles};
+ghost use Rattle.java_names.specs.Refusals.{Allows};
 
 use crate::bodies::{field, made_maker, maker, method};
-use crate::declared::{is_static, maker_lists, with_made};
+use crate::declared::{maker_lists, with_made};
 use crate::handlers::Handlers;
 use class_table::ClassTable;
-use java_names::{Numbering, Symbols, symbols};
+use core_tree::FIRST_CLASS;
+use java_names::{Numbering, Symbols, following, is_static, symbols};
 use java_syntax::{CheckError, ClassTree, FieldTree, FileTree, Member};
 use std::alloc::Global;
 
@@ -23,7 +23,7 @@ fn instance_field(
     tree: &FieldTree,
 ) -> Result<(), CheckError>
     requires { handlers.now.caught ≡ [] }
-    ensures { Handles (member_faults (types_env symbols.now) class handlers.now.declared (Member.Field tree.now)) result }
+    ensures { Allows (member_faults symbols.now class handlers.now.declared (Member.Field tree.now)) result }
 {
     if is_static(&tree.mods) {
         return Ok(());
@@ -40,7 +40,7 @@ fn member(
     tree: &Member,
 ) -> Result<(), CheckError>
     requires { handlers.now.caught ≡ [] }
-    ensures { Handles (member_faults (types_env symbols.now) class handlers.now.declared tree.now) result }
+    ensures { Allows (member_faults symbols.now class handlers.now.declared tree.now) result }
 {
     match tree {
         Member::Field(tree) => instance_field(alloc, symbols, class, handlers, tree),
@@ -59,7 +59,7 @@ fn members(
     list: &[Member],
 ) -> Result<(), CheckError>
     requires { handlers.now.caught ≡ [] }
-    ensures { Handles (flat_map (member_faults (types_env symbols.now) class handlers.now.declared) list.now) result }
+    ensures { Allows (flat_map (member_faults symbols.now class handlers.now.declared) list.now) result }
 {
     for tree in list {
         member(alloc, symbols, class, handlers, tree)?;
@@ -75,7 +75,7 @@ fn made(
     lists: &[Numbering<u32>],
     at: u32,
 ) -> Result<(), CheckError>
-    ensures { Handles (made_faults (types_env symbols.now) class lists.now at) result }
+    ensures { Allows (made_faults symbols.now class lists.now at) result }
 {
     match lists {
         [] => made_maker(alloc, symbols, class, at),
@@ -84,9 +84,9 @@ fn made(
 }
 
 // A class with this number.
-#[tactic(auto, using(java_exprs::proofs::RulesLemmas::joins))]
+#[tactic(auto, using(java_names::proofs::RefusalLemmas::parts))]
 fn class(alloc: Global, symbols: &Symbols, number: u32, tree: &ClassTree) -> Result<(), CheckError>
-    ensures { Handles (class_faults (types_env symbols.now) number tree.now) result }
+    ensures { Allows (class_faults symbols.now number tree.now) result }
 {
     let lists = maker_lists(alloc, symbols, tree.members.as_slice())?;
     made(alloc, symbols, number, lists.as_slice(), tree.name.at)?;
@@ -94,23 +94,9 @@ fn class(alloc: Global, symbols: &Symbols, number: u32, tree: &ClassTree) -> Res
     members(alloc, symbols, number, &handlers, tree.members.as_slice())
 }
 
-/// The number of the first class of a file.
-const FIRST_CLASS: u32 = 18;
-
-// The next number. `OutOfMemory` where there is none.
-fn following(number: u32) -> Result<u32, CheckError>
-    ensures number { IfOk result (λ next. next ≡ number + 1) }
-    ensures memory { IfErr result (λ e. e ≡ CheckError.OutOfMemory) }
-{
-    match number.checked_add(1) {
-        Some(next) => Ok(next),
-        None => Err(CheckError::OutOfMemory),
-    }
-}
-
 // Classes, numbered on from the first class of a file.
 fn classes(alloc: Global, symbols: &Symbols, list: &[ClassTree]) -> Result<(), CheckError>
-    ensures { Handles (faults_from (types_env symbols.now) first_class list.now) result }
+    ensures { Allows (faults_from symbols.now first_class list.now) result }
 {
     let mut number = FIRST_CLASS;
     for tree in list {
@@ -120,18 +106,28 @@ fn classes(alloc: Global, symbols: &Symbols, list: &[ClassTree]) -> Result<(), C
     Ok(())
 }
 
-/// Sees that a file keeps rule 23: each checked exception that a `throw`, a call or a `new` may throw is caught by a `catch`
-/// around it, or declared behind `throws` by the method or constructor that it stands in (JLS 11.2.3). One in the
-/// initialiser of an instance field is declared by each constructor of the class. `table` is the table of the file's
-/// classes, and `tree` the file, in which the rules before are kept; both stay as they are.
+/// Checks that a file keeps rule 23: each checked exception that a `throw`, a call or a `new` may throw is caught by a
+/// `catch` around it, or declared after `throws` by the method or constructor that it stands in (JLS 11.2.3). One in
+/// the initialiser of an instance field is declared by each constructor of the class. `table` is the table of the
+/// file's classes, and `tree` the file, in which the rules before are kept; both stay as they are.
 ///
 /// # Errors
-/// `Fault` of rule 23 where it is broken: at the word `throw`, at the first token of a call, at `new`, at the word `super` of
-/// a call of the superclass's constructor or else at the constructor's name, at the class's name where its constructor is
-/// made, and at a field's name. `OutOfMemory` where there is no memory left.
+/// `Fault` of rule 23 where it is broken: at the word `throw`, at the first token of a call, at `new`, at the word
+/// `super` of a call of the superclass's constructor or else at the constructor's name, at the class's name where its
+/// constructor is made, and at a field's name. `OutOfMemory` where memory runs out.
 pub fn check(alloc: Global, table: &ClassTable, tree: &FileTree) -> Result<(), CheckError>
-    ensures { Handles (faults_of table.now tree.now) result }
+    ensures { Allows (faults_of table.now tree.now) result }
 {
     let symbols = symbols(alloc, table)?;
-    classes(alloc, &symbols, tree.classes.as_slice())
+    check_file(alloc, &symbols, tree)
+}
+
+/// The same, given the symbols of the table.
+///
+/// # Errors
+/// Those of `check`.
+pub fn check_file(alloc: Global, symbols: &Symbols, tree: &FileTree) -> Result<(), CheckError>
+    ensures { Allows (faults_from symbols.now first_class tree.now.classes) result }
+{
+    classes(alloc, symbols, tree.classes.as_slice())
 }

@@ -4,8 +4,10 @@ ghost use Rattle.std.specs.Prelude.{◌≡◌, [], ◌∷◌, ◌++◌, IfOk, On
 ghost use Rattle.std.specs.List.{list_any};
 ghost use Rattle.throw_check.specs.Classes as spec;
 ghost use Rattle.throw_check.specs.Points.{points_at};
-ghost use Rattle.throw_check.specs.Walks.{Handles, faults_left, inside_try, outside_try, is_broken, is_handled};
+ghost use Rattle.java_names.specs.Refusals.{Allows};
+ghost use Rattle.throw_check.specs.Walks.{faults_left, inside_try, outside_try, is_broken, is_handled};
 
+use core_tree::BuiltIn;
 use java_names::{Numbering, Symbols};
 use java_syntax::{CheckError, Fault};
 use sqlite_items::Items;
@@ -14,18 +16,21 @@ use std::alloc::{AllocError, Global};
 /// What handles an exception at a place.
 #[derive(Drop)]
 pub struct Handlers {
-    /// What the methods or constructors declare that run the place, a list of classes for each; each of them must declare it.
+    /// What the methods or constructors declare that run the place, a list of classes for each; each of them must
+    /// declare it.
     pub declared: Items<Numbering<u32>>,
     /// The classes of the catch clauses around it, a list for each `try`; one of them must catch it.
     pub caught: Items<Numbering<u32>>,
 }
 
-// Whether class number `class` is checked: `Throwable` or below it, and neither `RuntimeException` nor `Error` nor below
-// these (JLS 11.1.1).
+// Whether class number `class` is checked: `Throwable` or below it, and neither `RuntimeException` nor `Error` nor
+// below these (JLS 11.1.1).
 fn is_checked(symbols: &Symbols, class: u32) -> bool
     ensures { result ≡ spec.is_checked symbols.now class }
 {
-    symbols.is_below(class, 1) && !symbols.is_below(class, 3) && !symbols.is_below(class, 4)
+    symbols.is_below(class, BuiltIn::Throwable.number())
+        && !symbols.is_below(class, BuiltIn::RuntimeException.number())
+        && !symbols.is_below(class, BuiltIn::Error.number())
 }
 
 // Whether class number `class` or one of its superclasses is among these.
@@ -84,14 +89,14 @@ impl Handlers {
         classes.iter().any(|class| self.is_broken(symbols, *class))
     }
 
-    /// Sees that exceptions of these classes are handled, which may be thrown at token `at`. It takes time in proportion to
-    /// their number, the number of `try` around the place, and the depth of inheritance.
+    /// Checks that exceptions of these classes are handled, which may be thrown at token `at`. It takes time in
+    /// proportion to their number, the number of `try` around the place, and the depth of inheritance.
     ///
     /// # Errors
     /// `Fault` of rule 23 at the token, where one of them is checked and neither caught nor declared.
     #[tactic(auto, using(crate::proofs::LeftLemmas::left_at))]
     pub fn check(&self, symbols: &Symbols, classes: &[u32], at: u32) -> Result<(), CheckError>
-        ensures { Handles (faults_left symbols.now self.now (points_at at classes.now)) result }
+        ensures { Allows (faults_left symbols.now self.now (points_at at classes.now)) result }
     {
         if self.is_broken_by(symbols, classes) {
             return Err(CheckError::Fault(Fault { rule: 23, at }));
@@ -99,7 +104,7 @@ impl Handlers {
         Ok(())
     }
 
-    /// Goes into the block of a `try` whose catch clauses have these classes. `AllocError` where there is no memory left.
+    /// Goes into the block of a `try` whose catch clauses have these classes. `AllocError` where memory runs out.
     pub fn enter(&mut self, classes: Numbering<u32>) -> Result<(), AllocError>
         ensures { OnOk result (self.new ≡ inside_try self.old classes) }
     {

@@ -1,19 +1,17 @@
 //! Locals, declared and gone again (JLS 6.3, 14.4).
 
 ghost use Rattle.std.specs.Prelude.{◌≡◌, IfOk, OnOk, take};
-ghost use Rattle.java_statements.specs.Statements.{caught_type, local_type};
-ghost use Rattle.throw_check.specs.Points.{types_env};
+ghost use Rattle.java_names.specs.Types as types;
 ghost use Rattle.throw_check.specs.Statements.{with_local};
 ghost use Rattle.throw_check.specs.Walks as spec;
 
-use class_table::Shared;
-use core_tree::Ty;
-use java_names::{Mark, Scope, Symbols, declared_type};
+use core_tree::{Shared, Ty};
+use java_names::{Mark, Scope, Symbols, declared_type, exception_type};
 use java_syntax::{Ident, LocalTree};
 use sqlite_items::Items;
 use std::alloc::{AllocError, Global};
 
-/// Declares a local of this type, unless a local in scope has its name. `AllocError` where there is no memory left, or no
+/// Declares a local of this type, unless a local in scope has its name. `AllocError` where memory runs out, or no
 /// number; then the scope serves no more.
 pub fn declare(scope: &mut Scope, name: &Ident, ty: Shared<Ty>) -> Result<(), AllocError>
     ensures { OnOk result (scope.new ≡ with_local scope.old name.now ty) }
@@ -33,20 +31,10 @@ pub fn declare_local(
     scope: &mut Scope,
     local: &LocalTree,
 ) -> Result<(), AllocError>
-    ensures { OnOk result (scope.new ≡ with_local scope.old local.now.name (local_type (types_env symbols.now) local.now)) }
+    ensures { OnOk result (scope.new ≡ with_local scope.old local.now.name (types.declared_type symbols.now.names local.now.ty)) }
 {
     let ty = declared_type(alloc, &symbols.names, &local.ty)?;
     declare(scope, &local.name, ty)
-}
-
-// The type of the local of a catch clause; `Void` where its class is unknown.
-fn caught(alloc: Global, symbols: &Symbols, class: &Ident) -> Result<Shared<Ty>, AllocError>
-    ensures { IfOk result (λ ty. ty ≡ caught_type (types_env symbols.now) class.now) }
-{
-    match symbols.class_number(&class.name) {
-        Some(class) => Shared::new(alloc, Ty::Class(class)),
-        None => Shared::new(alloc, Ty::Void),
-    }
 }
 
 /// Declares the local of a catch clause for this class. `AllocError` as `declare`.
@@ -57,26 +45,26 @@ pub fn declare_caught(
     name: &Ident,
     class: &Ident,
 ) -> Result<(), AllocError>
-    ensures { OnOk result (scope.new ≡ with_local scope.old name.now (caught_type (types_env symbols.now) class.now)) }
+    ensures { OnOk result (scope.new ≡ with_local scope.old name.now (types.exception_type symbols.now.names class.now.name)) }
 {
-    let ty = caught(alloc, symbols, class)?;
+    let ty = exception_type(alloc, &symbols.names, &class.name)?;
     declare(scope, name, ty)
 }
 
-/// Where a block begins, to come back to behind it.
+/// Where a block begins, to come back to after it.
 #[derive(Clone, Copy, Drop)]
-pub struct Place {
+pub struct BlockEntry {
     /// The locals in scope there.
     pub mark: Mark,
     /// How many locals were declared before.
     pub slots: usize,
 }
 
-/// The place that this is the scope of.
-pub fn here(scope: &Scope) -> Place
-    ensures { result ≡ spec.place_of scope.now }
+/// The entry of a block that begins here.
+pub fn here(scope: &Scope) -> BlockEntry
+    ensures { result ≡ spec.entry_of scope.now }
 {
-    Place {
+    BlockEntry {
         mark: scope.mark(),
         slots: scope.slots.len(),
     }
@@ -92,11 +80,11 @@ fn truncate(slots: &mut Items<Shared<Ty>>, count: usize)
     }
 }
 
-/// Leaves a block that began at this place: its locals are gone. It takes time in proportion to their number.
+/// Leaves a block that began there: its locals are gone. It takes time in proportion to their number.
 #[tactic(auto, unfolding(crate::specs::Walks::back_to, java_names::specs::Scope::back_at))]
-pub fn leave(scope: &mut Scope, place: Place)
-    ensures { scope.new ≡ spec.back_to place scope.old }
+pub fn leave(scope: &mut Scope, entry: BlockEntry)
+    ensures { scope.new ≡ spec.back_to entry scope.old }
 {
-    scope.back(place.mark);
-    truncate(&mut scope.slots, place.slots);
+    scope.back(entry.mark);
+    truncate(&mut scope.slots, entry.slots);
 }

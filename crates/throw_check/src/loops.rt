@@ -1,9 +1,10 @@
 //! Loops (JLS 14.12 to 14.14).
 
 ghost use Rattle.std.specs.Prelude.{◌≡◌, ◌++◌, OnOk, map};
-ghost use Rattle.throw_check.specs.Points.{expr_points, types_env};
+ghost use Rattle.throw_check.specs.Points.{expr_points};
 ghost use Rattle.throw_check.specs.Statements.{behind_all, in_order, points, turn_points, with_points};
-ghost use Rattle.throw_check.specs.Walks.{Handles, faults_left};
+ghost use Rattle.java_names.specs.Refusals.{Allows};
+ghost use Rattle.throw_check.specs.Walks.{faults_left};
 
 use crate::blocks::{block, inside};
 use crate::expression::optional;
@@ -33,7 +34,7 @@ pub fn while_loop(
     requires { whole.now ≡ Stmt.While test.now turn.now }
     ensures scope { OnOk result (scope.new ≡ scope.old) }
     ensures handlers { OnOk result (handlers.new ≡ handlers.old) }
-    ensures handled { Handles (faults_left symbols.now handlers.old (expr_points (types_env symbols.now) scope.old test.now ++ points (types_env symbols.now) turn.now scope.old)) result }
+    ensures handled { Allows (faults_left symbols.now handlers.old (expr_points symbols.now scope.old test.now ++ points symbols.now turn.now scope.old)) result }
 {
     evaluate(alloc, symbols, scope, handlers, test)?;
     inside(alloc, symbols, scope, handlers, turn)
@@ -57,7 +58,7 @@ pub fn do_loop(
     requires { whole.now ≡ Stmt.DoWhile turn.now test.now }
     ensures scope { OnOk result (scope.new ≡ scope.old) }
     ensures handlers { OnOk result (handlers.new ≡ handlers.old) }
-    ensures handled { Handles (faults_left symbols.now handlers.old (points (types_env symbols.now) turn.now scope.old ++ expr_points (types_env symbols.now) scope.old test.now)) result }
+    ensures handled { Allows (faults_left symbols.now handlers.old (points symbols.now turn.now scope.old ++ expr_points symbols.now scope.old test.now)) result }
 {
     inside(alloc, symbols, scope, handlers, turn)?;
     evaluate(alloc, symbols, scope, handlers, test)
@@ -83,13 +84,13 @@ pub fn for_loop(
     requires { whole.now ≡ Stmt.For start.now test.now update.now turn.now }
     ensures scope { OnOk result (scope.new ≡ scope.old) }
     ensures handlers { OnOk result (handlers.new ≡ handlers.old) }
-    ensures handled { Handles (faults_left symbols.now handlers.old (in_order (types_env symbols.now) (map (with_points (types_env symbols.now)) start.now) scope.old ++ turn_points (types_env symbols.now) test.now (map (with_points (types_env symbols.now)) update.now) (with_points (types_env symbols.now) turn.now) (behind_all (types_env symbols.now) start.now scope.old))) result }
+    ensures handled { Allows (faults_left symbols.now handlers.old (in_order symbols.now (map (with_points symbols.now) start.now) scope.old ++ turn_points symbols.now test.now (map (with_points symbols.now) update.now) (with_points symbols.now turn.now) (behind_all symbols.now start.now scope.old))) result }
 {
-    let place = here(scope);
+    let entry = here(scope);
     body(alloc, symbols, scope, handlers, start)?;
     optional(alloc, symbols, scope, handlers, test)?;
     block(alloc, symbols, scope, handlers, update)?;
     inside(alloc, symbols, scope, handlers, turn)?;
-    leave(scope, place);
+    leave(scope, entry);
     Ok(())
 }

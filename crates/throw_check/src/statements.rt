@@ -1,10 +1,10 @@
 //! Statements, and the body of a method or a constructor (JLS 11.2.2, 14).
 
 ghost use Rattle.std.specs.Prelude.{◌≡◌, OnOk, map};
-ghost use Rattle.java_statements.specs.Statements.{local_type};
-ghost use Rattle.throw_check.specs.Points.{types_env};
+ghost use Rattle.java_names.specs.Types.{declared_type};
 ghost use Rattle.throw_check.specs.Statements.{behind, behind_all, in_order, optional_points, points, with_local, with_points};
-ghost use Rattle.throw_check.specs.Walks.{Handles, faults_left};
+ghost use Rattle.java_names.specs.Refusals.{Allows};
+ghost use Rattle.throw_check.specs.Walks.{faults_left};
 
 use crate::blocks::{block, choice};
 use crate::expression::{each, optional};
@@ -25,18 +25,18 @@ fn local(
     handlers: &Handlers,
     tree: &LocalTree,
 ) -> Result<(), CheckError>
-    ensures scope { OnOk result (scope.new ≡ with_local scope.old tree.now.name (local_type (types_env symbols.now) tree.now)) }
-    ensures handled { Handles (faults_left symbols.now handlers.now (optional_points (types_env symbols.now) (with_local scope.old tree.now.name (local_type (types_env symbols.now) tree.now)) tree.now.value)) result }
+    ensures scope { OnOk result (scope.new ≡ with_local scope.old tree.now.name (declared_type symbols.now.names tree.now.ty)) }
+    ensures handled { Allows (faults_left symbols.now handlers.now (optional_points symbols.now (with_local scope.old tree.now.name (declared_type symbols.now.names tree.now.ty)) tree.now.value)) result }
 {
     declare_local(alloc, symbols, scope, tree)?;
     optional(alloc, symbols, scope, handlers, &tree.value)
 }
 
-/// Sees that the exceptions of a statement are handled. What it declares is in the scope from then on.
+/// Checks that the exceptions of a statement are handled. What it declares is in the scope from then on.
 ///
 /// # Errors
-/// `Fault` of rule 23 at a `throw`, a call or a `new` in it that may throw an exception that breaks the rule. `OutOfMemory`
-/// where there is no memory left. The scope and the handlers then serve no more.
+/// `Fault` of rule 23 at a `throw`, a call or a `new` in it that may throw an exception that breaks the rule.
+/// `OutOfMemory` where memory runs out. The scope and the handlers then serve no more.
 #[cycle(statements)]
 #[tactic(auto, using(crate::proofs::StatementLemmas::points_of_kinds, crate::proofs::StatementLemmas::behind_kinds, crate::proofs::LeftLemmas::left_none))]
 pub fn stmt(
@@ -46,9 +46,9 @@ pub fn stmt(
     handlers: &mut Handlers,
     s: &Stmt,
 ) -> Result<(), CheckError>
-    ensures scope { OnOk result (scope.new ≡ behind (types_env symbols.now) s.now scope.old) }
+    ensures scope { OnOk result (scope.new ≡ behind symbols.now s.now scope.old) }
     ensures handlers { OnOk result (handlers.new ≡ handlers.old) }
-    ensures handled { Handles (faults_left symbols.now handlers.old (points (types_env symbols.now) s.now scope.old)) result }
+    ensures handled { Allows (faults_left symbols.now handlers.old (points symbols.now s.now scope.old)) result }
 {
     match s {
         Stmt::Empty | Stmt::Break(_) | Stmt::Continue(_) => Ok(()),
@@ -92,7 +92,7 @@ pub fn stmt(
     }
 }
 
-/// Sees that the exceptions of statements are handled, each in the scope behind the one before it.
+/// Checks that the exceptions of statements are handled, each in the scope after the one before it.
 ///
 /// # Errors
 /// As `stmt`, for one of them.
@@ -104,9 +104,9 @@ pub fn body(
     handlers: &mut Handlers,
     list: &[Stmt],
 ) -> Result<(), CheckError>
-    ensures scope { OnOk result (scope.new ≡ behind_all (types_env symbols.now) list.now scope.old) }
+    ensures scope { OnOk result (scope.new ≡ behind_all symbols.now list.now scope.old) }
     ensures handlers { OnOk result (handlers.new ≡ handlers.old) }
-    ensures handled { Handles (faults_left symbols.now handlers.old (in_order (types_env symbols.now) (map (with_points (types_env symbols.now)) list.now) scope.old)) result }
+    ensures handled { Allows (faults_left symbols.now handlers.old (in_order symbols.now (map (with_points symbols.now) list.now) scope.old)) result }
 {
     for s in list {
         stmt(alloc, symbols, scope, handlers, s)?;

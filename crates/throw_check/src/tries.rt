@@ -1,10 +1,10 @@
 //! `try` (JLS 14.20).
 
 ghost use Rattle.std.specs.Prelude.{◌≡◌, ◌++◌, OnOk, IfOk, option_map};
-ghost use Rattle.throw_check.specs.Points.{types_env};
 ghost use Rattle.throw_check.specs.Statements as spec;
 ghost use Rattle.throw_check.specs.Statements.{points, uncaught, with_points};
-ghost use Rattle.throw_check.specs.Walks.{Handles, classes_of, clauses_points, faults_left, inside_try};
+ghost use Rattle.java_names.specs.Refusals.{Allows};
+ghost use Rattle.throw_check.specs.Walks.{classes_of, clauses_points, faults_left, inside_try};
 
 use crate::blocks::{branch, inside};
 use crate::handlers::Handlers;
@@ -21,7 +21,7 @@ fn caught(
     symbols: &Symbols,
     clauses: &[CatchTree],
 ) -> Result<Numbering<u32>, AllocError>
-    ensures { IfOk result (λ classes. classes ≡ classes_of (types_env symbols.now) clauses.now) }
+    ensures { IfOk result (λ classes. classes ≡ classes_of symbols.now clauses.now) }
 {
     let mut classes = Numbering::new(alloc);
     for clause in clauses {
@@ -39,7 +39,7 @@ fn enter(
     handlers: &mut Handlers,
     clauses: &[CatchTree],
 ) -> Result<(), AllocError>
-    ensures { OnOk result (handlers.new ≡ inside_try handlers.old (classes_of (types_env symbols.now) clauses.now)) }
+    ensures { OnOk result (handlers.new ≡ inside_try handlers.old (classes_of symbols.now clauses.now)) }
 {
     let classes = caught(alloc, symbols, clauses)?;
     handlers.enter(classes)
@@ -57,12 +57,12 @@ fn clause(
 ) -> Result<(), CheckError>
     ensures scope { OnOk result (scope.new ≡ scope.old) }
     ensures handlers { OnOk result (handlers.new ≡ handlers.old) }
-    ensures handled { Handles (faults_left symbols.now handlers.old (spec.clause (types_env symbols.now) tree.now scope.old)) result }
+    ensures handled { Allows (faults_left symbols.now handlers.old (spec.clause symbols.now tree.now scope.old)) result }
 {
-    let place = here(scope);
+    let entry = here(scope);
     declare_caught(alloc, symbols, scope, &tree.name, &tree.class)?;
     stmt(alloc, symbols, scope, handlers, tree.body.get())?;
-    leave(scope, place);
+    leave(scope, entry);
     Ok(())
 }
 
@@ -77,7 +77,7 @@ fn each_clause(
 ) -> Result<(), CheckError>
     ensures scope { OnOk result (scope.new ≡ scope.old) }
     ensures handlers { OnOk result (handlers.new ≡ handlers.old) }
-    ensures handled { Handles (faults_left symbols.now handlers.old (clauses_points (types_env symbols.now) list.now scope.old)) result }
+    ensures handled { Allows (faults_left symbols.now handlers.old (clauses_points symbols.now list.now scope.old)) result }
 {
     for tree in list {
         clause(alloc, symbols, scope, handlers, tree)?;
@@ -85,8 +85,8 @@ fn each_clause(
     Ok(())
 }
 
-/// `try { .. } catch (C x) { .. } finally { .. }`: what its clauses catch is handled in its block, and not in the clauses
-/// and behind `finally`.
+/// `try { .. } catch (C x) { .. } finally { .. }`: what its clauses catch is handled in its block, and not in the
+/// clauses and after `finally`.
 ///
 /// # Errors
 /// As `stmt`.
@@ -105,7 +105,7 @@ pub fn try_block(
     requires { whole.now ≡ Stmt.Try tried.now clauses.now last.now }
     ensures scope { OnOk result (scope.new ≡ scope.old) }
     ensures handlers { OnOk result (handlers.new ≡ handlers.old) }
-    ensures handled { Handles (faults_left symbols.now handlers.old (uncaught (types_env symbols.now) (classes_of (types_env symbols.now) clauses.now) (points (types_env symbols.now) tried.now scope.old) ++ (clauses_points (types_env symbols.now) clauses.now scope.old ++ spec.branch (option_map (with_points (types_env symbols.now)) last.now) scope.old))) result }
+    ensures handled { Allows (faults_left symbols.now handlers.old (uncaught symbols.now (classes_of symbols.now clauses.now) (points symbols.now tried.now scope.old) ++ (clauses_points symbols.now clauses.now scope.old ++ spec.branch (option_map (with_points symbols.now) last.now) scope.old))) result }
 {
     enter(alloc, symbols, handlers, clauses)?;
     inside(alloc, symbols, scope, handlers, tried)?;

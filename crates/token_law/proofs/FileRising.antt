@@ -5,7 +5,7 @@ use Rattle.java_syntax.specs.declared.class.ClassTree.{ClassTree}
 use Rattle.java_syntax.specs.declared.class.FileTree.{FileTree}
 use Rattle.java_syntax.specs.declared.class.Member.{Member}
 use Rattle.java_syntax.specs.declared.class.Member.TheVariants as member
-use Rattle.java_syntax.specs.Lexeme.{Lexeme, numbered}
+use Rattle.token_reading.specs.Lexeme.{Lexeme, numbered}
 use Rattle.java_syntax.specs.Exprs.{Within}
 use Rattle.java_syntax.specs.Classes.{MemberWithin, Members, ClassWithin}
 use Rattle.java_syntax.specs.Spells.{ClassesWithin, Spells}
@@ -20,7 +20,7 @@ use Rattle.token_law.proofs.OnwardMembers.{modifiers_onward, answer_onward, invo
 use Rattle.token_law.proofs.Rising.{Rising, RisingAll, sooner, all_sooner, same_type}
 use Rattle.token_law.specs.Tokens.{HasOwnTokens}
 
--- behind a member the names rise on, and its own stands before
+-- after a member the names rise on, and its own stands before
 abbrev Continues : ℕ → ℕ → Member → List Member → List Lexeme → Type 0
 Continues at c t more rest =
     (to : ℕ) × ((end : ℕ) → Rising to (fields_in c more) end → Rising at (fields_in c (t ∷ more)) end) × From to rest
@@ -29,21 +29,21 @@ member_continues : (n at c : ℕ) (t : Member) (more : List Member) (xs rest : L
     → Continues at c t more rest
 member_continues zero at c t more xs rest w from = absurd w
 member_continues (suc n) at c (member.Field t) more xs rest w from =
-    let name = (modifiers_onward t.mods.words xs w.0 w.1 >> type_onward t.ty w.0 w.2 w.3).go at from in
-    let own = past w.5 name.0 name.2 in
-    let behind = (initial_onward (Within n) (expr_onward n) t.value w.4 w.6 w.7 >> then_onward _ w.6 rest w.8).go (name.0 + 1) own.1 in (
+    let name = (modifiers_onward t.mods.words xs w.0.0 w.0.1 >> type_onward t.ty w.0.0 w.0.2 w.0.3).go at from in
+    let own = past w.0.5 name.0 name.2 in
+    let behind = (initial_onward (Within n) (expr_onward n) t.value w.0.4 w.0.6 w.0.7 >> then_onward _ w.0.6 rest w.0.8).go (name.0 + 1) own.1 in (
       behind.0,
       λ end later. (omega (arith, own.0, name.1), sooner (t.name.at + 1) behind.0 end (fields_in c more) (omega (arith, own.0, behind.1)) later),
       behind.2,
     )
 member_continues (suc n) at c (member.Method t) more xs rest w from =
-    let behind = (modifiers_onward t.mods.words xs w.0 w.1 >> answer_onward t.answer w.0 w.2 w.3 >> token w.5 >> invocable_onward n t.params t.throws t.body w.4 rest w.6).go at from in
+    let behind = (modifiers_onward t.mods.words xs w.0.0 w.0.1 >> answer_onward t.answer w.0.0 w.0.2 w.0.3 >> token w.0.5 >> invocable_onward n t.params t.throws t.body w.0.4 rest w.0.6).go at from in
     (behind.0, λ end later. sooner at behind.0 end (fields_in c more) behind.1 later, behind.2)
 member_continues (suc n) at c (member.Maker t) more xs rest w from =
-    let behind = (modifiers_onward t.mods.words xs w.0 w.1 >> token w.3 >> invocable_onward n t.params t.throws t.body w.2 rest w.4).go at from in
+    let behind = (modifiers_onward t.mods.words xs w.0.0 w.0.1 >> token w.0.3 >> invocable_onward n t.params t.throws t.body w.0.2 rest w.0.4).go at from in
     (behind.0, λ end later. sooner at behind.0 end (fields_in c more) behind.1 later, behind.2)
 member_continues (suc n) at c member.Empty more xs rest w from =
-    let behind = (then_onward _ xs rest w).go at from in
+    let behind = (then_onward _ xs rest w.0).go at from in
     (behind.0, λ end later. sooner at behind.0 end (fields_in c more) behind.1 later, behind.2)
 
 members_rise : (n at c : ℕ) (all : List Member) (xs rest : List Lexeme) → Members (MemberWithin n) all xs rest → From at xs

@@ -1,12 +1,12 @@
--- Numbered tokens: what is left behind a part of the tree is numbered on.
+-- Numbered tokens: what is left after a part of the tree is numbered on.
 use Rattle.std.proofs.Common.{◌≡◌, ℕ, zero, suc, ◌+◌, ◌≤◌, List, [], ◌∷◌, refl, subst, arith}
 use Rattle.java_tokens.specs.declared.token.TokenKind.{TokenKind}
 use Rattle.java_tokens.specs.declared.token.Token.{Token}
-use Rattle.java_syntax.specs.declared.name.BaseType.{BaseType}
-use Rattle.java_syntax.specs.declared.name.BaseType.TheVariants as base
-use Rattle.java_syntax.specs.declared.name.TypeTree.{TypeTree}
-use Rattle.java_syntax.specs.Lexeme.{Lexeme, lexeme, numbered, Then}
-use Rattle.java_syntax.specs.Types.{Brackets, IsBase, IsType}
+use Rattle.token_reading.specs.declared.name.BaseType.{BaseType}
+use Rattle.token_reading.specs.declared.name.BaseType.TheVariants as base
+use Rattle.token_reading.specs.declared.name.TypeTree.{TypeTree}
+use Rattle.token_reading.specs.Lexeme.{Lexeme, lexeme, numbered, Then}
+use Rattle.token_reading.specs.Types.{Brackets, IsBase, IsType}
 
 infixr 20 ◌>>◌
 -- the tokens bear the numbers from n on
@@ -29,7 +29,7 @@ pub ◌>>◌ : {xs ys zs : List Lexeme} → Onward xs ys → Onward ys zs → On
 pub stay : {xs rest : List Lexeme} → xs ≡ rest → Onward xs rest
 stay same = record { go = λ n from. (n, omega arith, subst (From n) same from) }
 
--- behind one token
+-- after one token
 pub past : {at : ℕ} {kind : TokenKind} {xs rest : List Lexeme} → xs ≡ lexeme at kind ∷ rest → (n : ℕ) → From n xs → (at ≡ n) × From (n + 1) rest
 past same n from = subst (From n) same from
 

@@ -1,8 +1,8 @@
--- What is left behind an expression is numbered on.
+-- What is left after an expression is numbered on.
 use Rattle.std.proofs.Common.{ℕ, zero, suc, List, [], ◌∷◌}
 use Rattle.java_syntax.specs.declared.expression.Expr.{Expr, out-Expr}
 use Rattle.java_syntax.specs.declared.expression.Expr.TheOpen.{Expr-F}
-use Rattle.java_syntax.specs.Lexeme.{Lexeme}
+use Rattle.token_reading.specs.Lexeme.{Lexeme}
 use Rattle.java_syntax.specs.Exprs.{Layer, Args, MoreArgs, Node, Within}
 use Rattle.token_law.proofs.Onward.{Onward, ◌>>◌, token, then_onward, base_onward, brackets_onward, type_onward}
 

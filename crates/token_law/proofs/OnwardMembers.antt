@@ -1,14 +1,15 @@
--- What is left behind a part of a member or class is numbered on.
+-- What is left after a part of a member or class is numbered on.
 use Rattle.std.proofs.Common.{ℕ, List, [], ◌∷◌, Bool, true, false, Option, Some, None}
 use Rattle.java_syntax.specs.declared.class.Modifier.{Modifier}
-use Rattle.java_syntax.specs.declared.class.ParamTree.{ParamTree}
-use Rattle.java_syntax.specs.declared.name.Ident.{Ident}
-use Rattle.java_syntax.specs.declared.name.TypeTree.{TypeTree}
+use Rattle.token_reading.specs.declared.name.ParamTree.{ParamTree}
+use Rattle.token_reading.specs.declared.name.Ident.{Ident}
+use Rattle.token_reading.specs.declared.name.TypeTree.{TypeTree}
 use Rattle.java_syntax.specs.declared.statement.Stmt.{Stmt}
-use Rattle.java_syntax.specs.Lexeme.{Lexeme}
+use Rattle.token_reading.specs.Lexeme.{Lexeme}
 use Rattle.java_syntax.specs.Exprs.{Within}
 use Rattle.java_syntax.specs.Stmts.{UnendedWithin, Stmts, StmtWithin}
-use Rattle.java_syntax.specs.Classes.{Modifiers, Param, MoreParams, Params, MoreNames, Throws, Answer, Invocable, Public, Extends}
+use Rattle.java_syntax.specs.Classes.{Modifiers, MoreNames, Throws, Answer, Invocable, Public, Extends}
+use Rattle.token_reading.specs.Types.{Param, MoreParams, Params}
 use Rattle.token_law.proofs.Onward.{Onward, ◌>>◌, stay, token, then_onward, type_onward}
 use Rattle.token_law.proofs.OnwardStmts.{stmts_onward, stmt_onward}
 

@@ -1,4 +1,4 @@
--- What is left behind a statement is numbered on.
+-- What is left after a statement is numbered on.
 use Rattle.std.proofs.Math.Logic.{inl, inr}
 use Rattle.std.proofs.Common.{ℕ, zero, suc, List, [], ◌∷◌, Bool, true, false, Option, Some, None}
 use Rattle.java_tokens.specs.declared.token.Operator.{Operator}
@@ -10,7 +10,7 @@ use Rattle.java_syntax.specs.declared.operator.StepOp.{StepOp}
 use Rattle.java_syntax.specs.declared.statement.CatchTree.{CatchTree, out-CatchTree}
 use Rattle.java_syntax.specs.declared.statement.Stmt.{Stmt, out-Stmt}
 use Rattle.java_syntax.specs.declared.statement.Stmt.TheOpen.{Stmt-F}
-use Rattle.java_syntax.specs.Lexeme.{Lexeme}
+use Rattle.token_reading.specs.Lexeme.{Lexeme}
 use Rattle.java_syntax.specs.Exprs.{Within}
 use Rattle.java_syntax.specs.Stmts.{StmtLayer, Initial, Steps, Unended, UnendedWithin, MoreSimples, Simples, Declares, Start, Stmts, Condition, Ended, Otherwise, Catch, Catches, Finally, StmtNode, StmtWithin}
 use Rattle.token_law.proofs.Onward.{Onward, ◌>>◌, stay, token, then_onward, type_onward}
@@ -46,7 +46,7 @@ module _ (Header : Stmt → List Lexeme → List Lexeme → Type 0)
 pub header_onward : (n : ℕ) (s : Stmt) (xs rest : List Lexeme) → UnendedWithin n s xs rest → Onward xs rest
 unfolding UnendedWithin
 header_onward zero s xs rest w = absurd w
-header_onward (suc n) s xs rest w = unended_onward (Within n) (expr_onward n) (out-Stmt s) xs rest w
+header_onward (suc n) s xs rest w = unended_onward (Within n) (expr_onward n) (out-Stmt s) xs rest w.0
 
 module _ (n : ℕ) (onward : (in_block : Bool) (t : Stmt) (xs rest : List Lexeme) → StmtWithin n in_block t xs rest → Onward xs rest) where
   pub stmts_onward : (all : List Stmt) (xs rest : List Lexeme) → Stmts (Within n) (UnendedWithin n) (StmtWithin n) all xs rest

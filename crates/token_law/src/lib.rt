@@ -1,4 +1,5 @@
-//! In a file that is spelled, each name that a member declares is a token of its own: what `typing_law` needs of the tokens.
+//! In a file that is spelled, each name that a member declares is a token of its own: what `typing_law` needs of the
+//! tokens.
 #![tactic(auto)]
 
 mod law;

@@ -1,7 +1,7 @@
 //! Reads the sources of a file, one a line, and prints below each its tokens with their bytes, lines and columns, or
 //! its fault. Its stored run is the table of sources for `java_tokens`.
 //!
-//! Line ends, control characters and bytes that are no UTF-8 are written with a backslash, as `escape` says. A line
+//! Line ends, control characters and bytes that aren't UTF-8 are written with a backslash, as `escape` says. A line
 //! that begins with `==` names the sources after it.
 #![tactic(auto)]
 

@@ -6,6 +6,7 @@ use Rattle.std.specs.List.{list_all}
 use Rattle.std.proofs.lemmas.Option.{same_Some, option_and_then_some, slice_get-map}
 use Rattle.std.proofs.lemmas.List.{append_assoc, append-nil}
 use Rattle.std.proofs.lemmas.Bool.{false≢true, eqb-true, ltb-true, not-true}
+use Rattle.std.specs.Cmp.{first_so, second_so}
 use Rattle.core_tree.specs.declared.ty.Ty.{Ty}
 use Rattle.core_tree.specs.declared.ty.Ty.TheVariants as ty
 use Rattle.core_tree.specs.declared.built_in.BuiltIn.TheVariants as class
@@ -26,9 +27,9 @@ use Rattle.evaluation.specs.Objects.{object_fits, trap, message_place}
 use Rattle.evaluation.specs.Calls.{Parts, most_live, returned, leave, called, block, arguments, run_method, invoke, dispatch_in, dispatch}
 use Rattle.type_safety.specs.Fits.{FitsType, FitEach, FitsWorld, FitsScope, FitsThis, HasGrown}
 use Rattle.type_safety.specs.Ends.{Wanted, Meets, Follows, EndsAs, EndsIn, AreSafe}
-use Rattle.type_safety.proofs.Assignable.{found_passes, to_class, is_object_class}
+use Rattle.core_tree.proofs.TypeFacts.{found_passes, is_object_class}
+use Rattle.type_safety.proofs.Assignable.{to_class}
 use Rattle.type_safety.proofs.Lines.{is_subclass_trans}
-use Rattle.type_safety.proofs.Lists.{and_l, and_r}
 use Rattle.type_safety.proofs.Values.{fits_grown, fits_on, default_fits, of_kind, object_cases, grown_refl, this_grown}
 use Rattle.type_safety.proofs.Parts.{follows_refl, follows_trans, scope_on, gives_in, value_then_ends, normal_then_in}
 use Rattle.type_safety.proofs.Programs as programs
@@ -45,8 +46,8 @@ pub block_in : (p : Program) (part : Parts) → AreSafe p part → (s : Scope) (
 block_in p part safe s inside [] w typed fits = gives_in p s (Wanted.StatementEnd s.answer inside) w outcome.Normal fits tt
 block_in p part safe s inside (x ∷ xs) w typed fits =
     normal_then_in p s (Wanted.StatementEnd s.answer inside) (block p part xs) w (part.stmt x w)
-    (safe.stmt s x inside w (and_l (is_typed_stmt p s x inside) (list_all (λ x. is_typed_stmt p s x inside) xs) typed) fits)
-    (λ u fits_u grown. block_in p part safe s inside xs u (and_r (is_typed_stmt p s x inside) (list_all (λ x. is_typed_stmt p s x inside) xs) typed) fits_u)
+    (safe.stmt s x inside w (first_so (is_typed_stmt p s x inside) (list_all (λ x. is_typed_stmt p s x inside) xs) typed) fits)
+    (λ u fits_u grown. block_in p part safe s inside xs u (second_so (is_typed_stmt p s x inside) (list_all (λ x. is_typed_stmt p s x inside) xs) typed) fits_u)
 
 -- ---- arguments
 
@@ -81,16 +82,16 @@ one_not_zero : ◌≡◌ {A = ℕ} 1 0 → ⊥
 one_not_zero is = omega arith
 
 module _ (p : Program) (typed : IsWellTyped p) (part : Parts) (safe : AreSafe p part) where
-  -- arguments behind those that are there
+  -- arguments after those that are there
   pub arguments_ends : (wanted : Wanted) (s : Scope) (es : List Expr) (params : List Ty) (got : List Value) (done : List Ty) (go : List Value → Run) (w : World) → IsTrue (all_fit p params (map (type_of p s) es)) → FitsScope p s w → FitAll p w.now got done →
       ((vs : List Value) (u : World) → Follows p w u → FitAll p u.now vs (done ++ params) → EndsAs p wanted u (go vs u)) → EndsAs p wanted w (arguments p part es got go w)
   arguments_ends wanted s [] [] got done go w all fit fits next = next got w (follows_refl p w fit.world) (subst (FitAll p w.now got) (sym (append-nil done)) fits)
   arguments_ends wanted s [] (t ∷ ts) got done go w all fit fits next = absurd (false≢true all)
   arguments_ends wanted s (e ∷ es) [] got done go w all fit fits next = absurd (false≢true all)
   arguments_ends wanted s (e ∷ es) (t ∷ ts) got done go w all fit fits next =
-      found_passes (λ from. is_assignable p.classes from t) (type_of p s e) {Q = EndsAs p wanted w (arguments p part (e ∷ es) got go w)} (and_l (fits_part p t (type_of p s e)) (all_fit p ts (map (type_of p s) es)) all) (λ from is below.
+      found_passes (λ from. is_assignable p.classes from t) (type_of p s e) {Q = EndsAs p wanted w (arguments p part (e ∷ es) got go w)} (first_so (fits_part p t (type_of p s e)) (all_fit p ts (map (type_of p s) es)) all) (λ from is below.
       value_then_ends p wanted from (λ v. arguments p part es (got ++ v ∷ []) go) w (part.expr e w) (safe.expr s e from w is fit) (λ v u on of_type.
-      arguments_ends wanted s es ts (got ++ v ∷ []) (done ++ t ∷ []) go u (and_r (fits_part p t (type_of p s e)) (all_fit p ts (map (type_of p s) es)) all) (scope_on p s w u fit on)
+      arguments_ends wanted s es ts (got ++ v ∷ []) (done ++ t ∷ []) go u (second_so (fits_part p t (type_of p s e)) (all_fit p ts (map (type_of p s) es)) all) (scope_on p s w u fit on)
       (one_more p u.now got done v t (all_grown p w.now u.now got done on.grown fits) (fits_on p u.now v from t (programs.have_lines p typed) (programs.is_top p typed) of_type below))
       (λ vs x further fit_all. next vs x (follows_trans p w u x on further) (subst (FitAll p x.now vs) (append_assoc done (t ∷ []) ts) fit_all))))
 
@@ -126,16 +127,12 @@ module _ (p : Program) (typed : IsWellTyped p) (part : Parts) (safe : AreSafe p 
   returned_meets t h (outcome.Value v) meets = absurd meets
   returned_meets t h outcome.Normal meets = default_fits p h t
   returned_meets t h (outcome.Return None) meets = default_fits p h t
-  returned_meets t h (outcome.Return (Some v)) meets = meets
   returned_meets t h outcome.Break meets = absurd (false≢true meets)
   returned_meets t h outcome.Continue meets = absurd (false≢true meets)
-  returned_meets t h (outcome.Throw o) meets = meets
-  returned_meets t h outcome.Spent meets = meets
-  returned_meets t h (outcome.Full what) meets = meets
-  returned_meets t h outcome.Stuck meets = meets
+  returned_meets t h _ meets = meets
 
   method_body : (m : Method) → IsTrue (is_method p m) → IsTrue (is_typed_body p (method_scope m) m.body)
-  method_body m passes = search (and_l, and_r)
+  method_body m passes = search (first_so, second_so)
 
   pub run_method_ends : (m : Method) (this : Option ℕ) (args : List Value) (w : World) → IsTrue (is_method p m) → FitsWorld p w → FitsThis p w.now (method_scope m).this this → FitAll p w.now args m.params → EndsAs p (Wanted.ValueOf m.answer) w (run_method p part m this args w)
   run_method_ends m this args w passes fits fits_this fit_args =
@@ -195,7 +192,7 @@ module _ (p : Program) (typed : IsWellTyped p) (part : Parts) (safe : AreSafe p 
   call_types test arguments method t {Q = Q} is next =
       option_and_then_some (λ m. where_true (test m && all_fit p m.params arguments) m.answer) method t is (λ m is_m true.
       let w = where_some (test m && all_fit p m.params arguments) m.answer t true in
-      next m is_m (and_l (test m) (all_fit p m.params arguments) w.0) (and_r (test m) (all_fit p m.params arguments) w.0) w.1)
+      next m is_m (first_so (test m) (all_fit p m.params arguments) w.0) (second_so (test m) (all_fit p m.params arguments) w.0) w.1)
 
   -- a call on an object, whose value has been evaluated
   pub chosen_ends : (s : Scope) (v : Value) (selector c : ℕ) (es : List Expr) (t : Ty) (w : World) → FitsScope p s w → FitsType p w.now v (ty.Class c) → chosen_type p selector (map (type_of p s) es) c ≡ Some t → EndsAs p (Wanted.ValueOf t) w (arguments p part es [] (dispatch p part selector v) w)
@@ -207,12 +204,12 @@ module _ (p : Program) (typed : IsWellTyped p) (part : Parts) (safe : AreSafe p 
       cases : (message : Bool) → (selector == 0 && is_throwable p c) ≡ message → (if message then where_true (all_fit p [] (map (type_of p s) es)) ty.Text else call_type p (λ m. m.on_object) (map (type_of p s) es) (chosen_method p c selector)) ≡ Some t → EndsAs p (Wanted.ValueOf t) w (arguments p part es [] (dispatch p part selector v) w)
       cases true is_message is =
           let both = where_some (all_fit p [] (map (type_of p s) es)) ty.Text t is in
-          let zero_selector : selector ≡ 0 = eqb-true selector 0 (and_l (selector == 0) (is_throwable p c) is_message) in
+          let zero_selector : selector ≡ 0 = eqb-true selector 0 (first_so (selector == 0) (is_throwable p c) is_message) in
           subst (λ r. EndsAs p (Wanted.ValueOf r) w (arguments p part es [] (dispatch p part selector v) w)) both.1
           (arguments_ends (Wanted.ValueOf ty.Text) s es [] [] [] (dispatch p part selector v) w both.0 fits tt (λ args u on fit_args.
           with_object_by p (EndsAs p (Wanted.ValueOf ty.Text) u) (ty.Class c) v (go selector args) u (fits_grown p w.now u.now v (ty.Class c) on.grown of_type) (is_object_class c)
           (trap_ends p typed (Wanted.ValueOf ty.Text) class.NullPointerException u refl on.world) (λ o below.
-          message_call_ends selector c o args u on.world zero_selector (and_r (selector == 0) (is_throwable p c) is_message) fit_args below)))
+          message_call_ends selector c o args u on.world zero_selector (second_so (selector == 0) (is_throwable p c) is_message) fit_args below)))
       cases false is_message is =
           call_types (λ m. m.on_object) (map (type_of p s) es) (chosen_method p c selector) t {Q = EndsAs p (Wanted.ValueOf t) w (arguments p part es [] (dispatch p part selector v) w)} is (λ m is_m on_object all is_answer.
           option_and_then_some (λ n. slice_get p.methods n) (chosen_number p c selector) m is_m (λ n is_n there.
@@ -240,7 +237,7 @@ module _ (p : Program) (typed : IsWellTyped p) (part : Parts) (safe : AreSafe p 
       subst (λ r. EndsAs p (Wanted.ValueOf r) w (arguments p part es [] (invoke p part n w.this) w)) is_answer
       (arguments_ends (Wanted.ValueOf m.answer) s es m.params [] [] (invoke p part n w.this) w all fits tt (λ args u on fit_args.
       invoke_ends n m w.this args u is_m on.world
-      (this_of_superclass u.now m w.this (and_l m.on_object (is_subclass p.classes c m.owner && not (m.owner == c)) of_superclass) (and_l (is_subclass p.classes c m.owner) (not (m.owner == c)) (and_r m.on_object (is_subclass p.classes c m.owner && not (m.owner == c)) of_superclass)) (this_grown p w.now u.now (Some c) w.this on.grown (subst (λ k. FitsThis p w.now k w.this) is_this fits.this))) fit_args)))
+      (this_of_superclass u.now m w.this (first_so m.on_object (is_subclass p.classes c m.owner && not (m.owner == c)) of_superclass) (first_so (is_subclass p.classes c m.owner) (not (m.owner == c)) (second_so m.on_object (is_subclass p.classes c m.owner && not (m.owner == c)) of_superclass)) (this_grown p w.now u.now (Some c) w.this on.grown (subst (λ k. FitsThis p w.now k w.this) is_this fits.this))) fit_args)))
     where
       this_of_superclass : (h : Heap) (m : Method) (this : Option ℕ) → IsTrue m.on_object → IsTrue (is_subclass p.classes c m.owner) → FitsThis p h (Some c) this → FitsThis p h (method_scope m).this this
       this_of_superclass h m None is below fits_this = absurd fits_this

@@ -3,6 +3,7 @@ use Rattle.std.proofs.Common.{◌≡◌, ◌∙◌, ℕ, zero, suc, ◌+◌, Boo
 use Rattle.std.specs.Option.{option_map_or}
 use Rattle.std.proofs.lemmas.Option.{none-some, same_Some, slice_get-map, option_and_then_some}
 use Rattle.std.proofs.lemmas.Bool.{false≢true, eqb-true}
+use Rattle.std.specs.Cmp.{first_so, second_so}
 use Rattle.core_tree.specs.declared.ty.Ty.{Ty}
 use Rattle.core_tree.specs.declared.ty.Ty.TheVariants as ty
 use Rattle.core_tree.specs.declared.expr.Expr.{Expr}
@@ -25,8 +26,8 @@ use Rattle.evaluation.specs.Objects.{write_cell, message_place}
 use Rattle.evaluation.specs.Calls.{Parts, finished, called, block, arguments, initialise, initialise_class, build_parent, build, construct}
 use Rattle.type_safety.specs.Fits.{FitsType, FitsWorld, FitsScope, types_of_fields}
 use Rattle.type_safety.specs.Ends.{Wanted, Meets, EndsAs, EndsIn, AreSafe}
-use Rattle.type_safety.proofs.Assignable.{found_passes, to_class}
-use Rattle.type_safety.proofs.Lists.{and_l, and_r}
+use Rattle.core_tree.proofs.TypeFacts.{found_passes}
+use Rattle.type_safety.proofs.Assignable.{to_class}
 use Rattle.type_safety.proofs.Lines.{line_cases, superclass_there, is_subclass_refl, is_subclass_up, is_subclass_trans}
 use Rattle.type_safety.proofs.Values.{fits_on, of_kind, kind_grown}
 use Rattle.type_safety.proofs.Parts.{in_scope, scope_on, gives_ends, value_then_ends, normal_then_ends, normal_then_in, normal_is_statement}
@@ -55,7 +56,7 @@ module _ (p : Program) (typed : IsWellTyped p) (part : Parts) (safe : AreSafe p 
   one_initialised o c d at field w fits passes is_kind is = cases (field.owner == c) refl
     where
       start_fits : IsTrue (option_map_or (λ e. fits_part p field.ty (type_of p (initialiser_scope field.owner) e)) field.start true)
-      start_fits = search (and_l, and_r)
+      start_fits = search (first_so, second_so)
 
       started : (start : Option Expr) → IsTrue (option_map_or (λ e. fits_part p field.ty (type_of p (initialiser_scope c) e)) start true) → EndsAs p Wanted.NormalEnd w (option_map_or (λ e. part.expr e >>= (λ v. write_cell o at v)) start (gives outcome.Normal) w)
       started None passes = gives_ends p Wanted.NormalEnd w outcome.Normal fits.world tt
@@ -100,27 +101,26 @@ module _ (p : Program) (typed : IsWellTyped p) (part : Parts) (safe : AreSafe p 
   message_of_built_in d (suc b) below is no_object = programs.field_below p typed d (suc b) 0 ty.Text below (built_ins.message_at p typed b is)
 
   parent_ends : (construct : ℕ → ℕ → List Value → Run) (s : Scope) (o d b : ℕ) (above : Parent) (w : World) → IsTrue (is_parent p s b above) → FitsScope p s w → kind_at w.now o ≡ Some (kind.Instance d) → IsTrue (is_subclass p.classes d b) → ConstructsAt construct o d b → EndsAs p Wanted.NormalEnd w (build_parent p part construct o above w)
-  parent_ends construct s o d b parent.Plain w passes fits is_kind below constructs = gives_ends p Wanted.NormalEnd w outcome.Normal fits.world tt
-  parent_ends construct s o d b (parent.Message None) w passes fits is_kind below constructs = gives_ends p Wanted.NormalEnd w outcome.Normal fits.world tt
   parent_ends construct s o d b (parent.Message (Some e)) w passes fits is_kind below constructs =
-      let rest = and_r (is_built_in b) (not (b == 0) && fits_part p ty.Text (type_of p s e)) passes in
-      field_written s o d message_place e ty.Text w fits (and_r (not (b == 0)) (fits_part p ty.Text (type_of p s e)) rest) is_kind
-      (message_of_built_in d b below (and_l (is_built_in b) (not (b == 0) && fits_part p ty.Text (type_of p s e)) passes) (and_l (not (b == 0)) (fits_part p ty.Text (type_of p s e)) rest))
+      let rest = second_so (is_built_in b) (not (b == 0) && fits_part p ty.Text (type_of p s e)) passes in
+      field_written s o d message_place e ty.Text w fits (second_so (not (b == 0)) (fits_part p ty.Text (type_of p s e)) rest) is_kind
+      (message_of_built_in d b below (first_so (is_built_in b) (not (b == 0) && fits_part p ty.Text (type_of p s e)) passes) (first_so (not (b == 0)) (fits_part p ty.Text (type_of p s e)) rest))
   parent_ends construct s o d b (parent.Maker k es) w passes fits is_kind below constructs =
       found_passes (λ maker. maker.owner == b && all_fit p maker.params (map (type_of p s) es)) (slice_get p.makers k) {Q = EndsAs p Wanted.NormalEnd w (arguments p part es [] (construct k o) w)} passes (λ maker is_maker both.
-      arguments_ends p typed part safe Wanted.NormalEnd s es maker.params [] [] (construct k o) w (and_r (maker.owner == b) (all_fit p maker.params (map (type_of p s) es)) both) fits tt (λ args u on fit_args.
-      constructs k maker args u is_maker (eqb-true maker.owner b (and_l (maker.owner == b) (all_fit p maker.params (map (type_of p s) es)) both)) (kind_grown w.now u.now o (kind.Instance d) on.grown is_kind) on.world fit_args))
+      arguments_ends p typed part safe Wanted.NormalEnd s es maker.params [] [] (construct k o) w (second_so (maker.owner == b) (all_fit p maker.params (map (type_of p s) es)) both) fits tt (λ args u on fit_args.
+      constructs k maker args u is_maker (eqb-true maker.owner b (first_so (maker.owner == b) (all_fit p maker.params (map (type_of p s) es)) both)) (kind_grown w.now u.now o (kind.Instance d) on.grown is_kind) on.world fit_args))
+  parent_ends construct s o d b _ w passes fits is_kind below constructs = gives_ends p Wanted.NormalEnd w outcome.Normal fits.world tt
 
   -- ---- the whole
 
   maker_parent : (maker : Maker) → IsTrue (is_maker p maker) → IsTrue (option_map_or (λ b. is_parent p (maker_scope maker) b maker.parent) (superclass p maker.owner) false)
-  maker_parent maker passes = search (and_l, and_r)
+  maker_parent maker passes = search (first_so, second_so)
 
   maker_body : (maker : Maker) → IsTrue (is_maker p maker) → IsTrue (is_typed_body p (maker_scope maker) maker.body)
-  maker_body maker passes = search (and_l, and_r)
+  maker_body maker passes = search (first_so, second_so)
 
   maker_class : (maker : Maker) → IsTrue (is_maker p maker) → IsTrue (is_some (slice_get p.classes maker.owner))
-  maker_class maker passes = search (and_l, and_r)
+  maker_class maker passes = search (first_so, second_so)
 
   build_in : (construct : ℕ → ℕ → List Value → Run) (maker : Maker) (o d b : ℕ) (w : World) → IsTrue (is_maker p maker) → IsTrue (is_parent p (maker_scope maker) b maker.parent) → FitsScope p (maker_scope maker) w → kind_at w.now o ≡ Some (kind.Instance d) → IsTrue (is_subclass p.classes d maker.owner) → IsTrue (is_subclass p.classes d b) → ConstructsAt construct o d b →
       EndsIn p (maker_scope maker) (Wanted.StatementEnd ty.Void false) w (build p part construct o maker w)
@@ -142,10 +142,7 @@ module _ (p : Program) (typed : IsWellTyped p) (part : Parts) (safe : AreSafe p 
   finished_meets h (outcome.Return v) meets = tt
   finished_meets h outcome.Break meets = absurd (false≢true meets)
   finished_meets h outcome.Continue meets = absurd (false≢true meets)
-  finished_meets h (outcome.Throw o) meets = meets
-  finished_meets h outcome.Spent meets = meets
-  finished_meets h (outcome.Full what) meets = meets
-  finished_meets h outcome.Stuck meets = meets
+  finished_meets h _ meets = meets
 
   pub construct_ends : (levels k : ℕ) (maker : Maker) (o d : ℕ) (args : List Value) (line : List ℕ) (w : World) → slice_get p.makers k ≡ Some maker → line_within levels p.classes maker.owner ≡ Some line → kind_at w.now o ≡ Some (kind.Instance d) → IsTrue (is_subclass p.classes d maker.owner) → FitsWorld p w → FitAll p w.now args maker.params →
       EndsAs p Wanted.NormalEnd w (construct p part levels k o args w)

@@ -4,6 +4,7 @@ use Rattle.std.specs.Prelude.{option_and_then}
 use Rattle.std.specs.Option.{option_map_or}
 use Rattle.std.proofs.lemmas.Option.{none-some, same_Some, option_and_then_some}
 use Rattle.std.proofs.lemmas.Bool.{false≢true, or_left, or_right}
+use Rattle.std.specs.Cmp.{first_so, second_so}
 use Rattle.core_tree.specs.declared.ty.Ty.{Ty}
 use Rattle.core_tree.specs.declared.ty.Ty.TheVariants as ty
 use Rattle.core_tree.specs.declared.ty.Ty.TheViews as type
@@ -15,7 +16,6 @@ use Rattle.core_tree.specs.declared.operator.BinOp.TheVariants as binary
 use Rattle.core_tree.specs.declared.expr.Expr.{Expr, out-Expr}
 use Rattle.core_tree.specs.declared.expr.Expr.TheOpen.{Expr-F}
 use Rattle.core_tree.specs.declared.expr.Expr.TheFolds.{fold_out-Expr, map-Expr}
-use Rattle.core_tree.specs.declared.program.Class.{Class}
 use Rattle.core_tree.specs.declared.program.Maker.{Maker}
 use Rattle.core_tree.specs.declared.program.Program.{Program}
 use Rattle.core_tree.specs.BuiltIn.{is_built_in}
@@ -35,20 +35,21 @@ use Rattle.evaluation.specs.Calls.{Parts, arguments, dispatch, construct}
 use Rattle.evaluation.specs.Evaluate.{this_value, choose, new_object, new_built_in, expr_node}
 use Rattle.type_safety.specs.Fits.{FitsType, FitsWorld, FitsScope, FitsThis, has_null, types_of_fields}
 use Rattle.type_safety.specs.Ends.{Wanted, Meets, Follows, EndsAs, AreSafe}
-use Rattle.type_safety.proofs.Assignable.{found_passes, class_type, array_type, to_class, int_type, boolean_type, string_type, text_to}
-use Rattle.type_safety.proofs.Lists.{and_l, and_r}
+use Rattle.core_tree.proofs.TypeFacts.{found_passes, class_type, array_type, int_type, boolean_type, is_boolean-Bool, is_int-Int, is_null-Null}
+use Rattle.type_safety.proofs.Assignable.{to_class, text_to}
 use Rattle.type_safety.proofs.Lines.{is_subclass_refl}
-use Rattle.type_safety.proofs.Values.{fits_grown, fits_on, of_kind, kind_grown, is_int_int, is_boolean_boolean, has_null_null}
+use Rattle.type_safety.proofs.Values.{fits_grown, fits_on, of_kind, kind_grown}
 use Rattle.type_safety.proofs.Parts.{scope_on, gives_ends, value_then_ends, normal_then_ends}
 use Rattle.type_safety.proofs.Programs as programs
 use Rattle.type_safety.proofs.Methods as methods
 use Rattle.type_safety.proofs.BuiltIns as built_ins
 use Rattle.type_safety.proofs.Making.{make_instance_ends, trap_ends, computed_ends}
 use Rattle.type_safety.proofs.Places.{read_local_ends, read_cell_ends}
-use Rattle.type_safety.proofs.Objects.{boolean_value, with_field_by, with_element_by, array_length_ends, new_array_ends, cast_ends, is_instance_ends}
+use Rattle.type_safety.proofs.Objects.{with_field_by, with_element_by, array_length_ends, new_array_ends, cast_ends, is_instance_ends, choose_by}
 use Rattle.type_safety.proofs.Computing.{where_some, literal_computes, text_length_computes, text_equals_computes, unary_computes, binary_computes, concatenated_computes}
 use Rattle.type_safety.proofs.Calls.{arguments_ends, static_ends, chosen_ends, super_ends}
 use Rattle.type_safety.proofs.Constructors.{field_written, construct_ends}
+use Rattle.type_safety.proofs.Lists.{some_of}
 
 module _ (p : Program) (typed : IsWellTyped p) (part : Parts) (safe : AreSafe p part) (s : Scope) where
   -- goes on with the value of a part
@@ -66,23 +67,7 @@ module _ (p : Program) (typed : IsWellTyped p) (part : Parts) (safe : AreSafe p 
     where
       cases : (o : Outcome) → Meets p (Wanted.ValueOf a) x.world.now o → Meets p (Wanted.ValueOf t) x.world.now o
       cases (outcome.Value v) meets = fits_on p x.world.now v a t (programs.have_lines p typed) (programs.is_top p typed) meets below
-      cases outcome.Normal meets = meets
-      cases (outcome.Return v) meets = meets
-      cases outcome.Break meets = meets
-      cases outcome.Continue meets = meets
-      cases (outcome.Throw o) meets = meets
-      cases outcome.Spent meets = meets
-      cases (outcome.Full what) meets = meets
-      cases outcome.Stuck meets = meets
-
-  -- goes on by a boolean
-  choose_ends : (wanted : Wanted) (v : Value) (first second : Run) (w : World) → FitsType p w.now v ty.Bool → EndsAs p wanted w (first w) → EndsAs p wanted w (second w) → EndsAs p wanted w (choose v first second w)
-  choose_ends wanted v first second w of_type true_ends false_ends =
-      boolean_value p w.now v {Q = EndsAs p wanted w (choose v first second w)} of_type (λ b is_v. subst (λ x. EndsAs p wanted w (choose x first second w)) (sym is_v) (cases b))
-    where
-      cases : (b : Bool) → EndsAs p wanted w (choose (value.Bool b) first second w)
-      cases true = true_ends
-      cases false = false_ends
+      cases _ meets = meets
 
   -- the type of a node from the types of its parts
   abbrev TypedLayer : Expr-F Expr → Ty → Type 0
@@ -95,10 +80,10 @@ module _ (p : Program) (typed : IsWellTyped p) (part : Parts) (safe : AreSafe p 
 
   -- what a cast's typing says
   cast_to : (to from : Ty) → IsTrue (is_castable p to from) → IsTrue (is_object to)
-  cast_to to from castable = search (and_l, and_r)
+  cast_to to from castable = search (first_so, second_so)
 
   cast_from : (to from : Ty) → IsTrue (is_castable p to from) → IsTrue (is_object from || is_null from)
-  cast_from to from castable = search (and_l, and_r)
+  cast_from to from castable = search (first_so, second_so)
 
   null_of_object : (t : Ty) → IsTrue (is_object t) → IsTrue (has_null t)
   null_of_object t is = or_right (is_null t) (is_string t || (is_object t || is_void t)) (or_right (is_string t) (is_object t || is_void t) (or_left (is_object t) (is_void t) is))
@@ -162,8 +147,8 @@ module _ (p : Program) (typed : IsWellTyped p) (part : Parts) (safe : AreSafe p 
   text_equals_node_ends e f t w is fits =
       let test = where_some (has is_text_or_null (type_of p s e) && fits_part p ty.Text (type_of p s f)) ty.Bool t is in
       subst (λ r. EndsAs p (Wanted.ValueOf r) w (expr_node p part (Expr-F.TextEquals e f) w)) test.1
-      (tested_part e is_text_or_null (Wanted.ValueOf ty.Bool) (λ x. part.expr f >>= (λ y. computed p (text_equals x y))) w (and_l (has is_text_or_null (type_of p s e)) (fits_part p ty.Text (type_of p s f)) test.0) fits (λ a v u string fits_u on of_type.
-      tested_part f (λ from. is_assignable p.classes from ty.Text) (Wanted.ValueOf ty.Bool) (λ y. computed p (text_equals v y)) u (and_r (has is_text_or_null (type_of p s e)) (fits_part p ty.Text (type_of p s f)) test.0) fits_u (λ b y x below fits_x further of_other.
+      (tested_part e is_text_or_null (Wanted.ValueOf ty.Bool) (λ x. part.expr f >>= (λ y. computed p (text_equals x y))) w (first_so (has is_text_or_null (type_of p s e)) (fits_part p ty.Text (type_of p s f)) test.0) fits (λ a v u string fits_u on of_type.
+      tested_part f (λ from. is_assignable p.classes from ty.Text) (Wanted.ValueOf ty.Bool) (λ y. computed p (text_equals v y)) u (second_so (has is_text_or_null (type_of p s e)) (fits_part p ty.Text (type_of p s f)) test.0) fits_u (λ b y x below fits_x further of_other.
       computed_ends p typed ty.Bool (text_equals v y) x fits_x.world (text_equals_computes p x.now v y
       (fits_on p x.now v a ty.Text (programs.have_lines p typed) (programs.is_top p typed) (fits_grown p u.now x.now v a further.grown of_type) (text_to p.classes a string)) (fits_on p x.now y b ty.Text (programs.have_lines p typed) (programs.is_top p typed) of_other below)))))
 
@@ -173,17 +158,13 @@ module _ (p : Program) (typed : IsWellTyped p) (part : Parts) (safe : AreSafe p 
   of_class h o c is below = of_kind p h o (ty.Class c) (kind.Instance c) is (to_class p.classes c c below)
 
   maker_class : (maker : Maker) → IsTrue (is_maker p maker) → IsTrue (is_some (slice_get p.classes maker.owner))
-  maker_class maker passes = search (and_l, and_r)
-
-  some_class : (c : ℕ) (found : Option Class) → slice_get p.classes c ≡ found → IsTrue (is_some found) → (class : Class) × (slice_get p.classes c ≡ Some class)
-  some_class c None is some = absurd (false≢true some)
-  some_class c (Some class) is some = (class, is)
+  maker_class maker passes = search (first_so, second_so)
 
   new_made : (k : ℕ) (es : List Expr) (maker : Maker) (w : World) → slice_get p.makers k ≡ Some maker → IsTrue (all_fit p maker.params (map (type_of p s) es)) → FitsScope p s w →
       EndsAs p (Wanted.ValueOf (ty.Class maker.owner)) w (make_instance p maker.owner (λ o. arguments p part es [] (λ args. construct p part (length p.classes) k o args >> gives (outcome.Value (value.Ref o)))) w)
   new_made k es maker w is_maker all fits =
       let wanted = Wanted.ValueOf (ty.Class maker.owner) in
-      let there = some_class maker.owner (slice_get p.classes maker.owner) refl (maker_class maker (methods.maker_passes p typed k maker is_maker)) in
+      let there = some_of (slice_get p.classes maker.owner) (maker_class maker (methods.maker_passes p typed k maker is_maker)) in
       let line = programs.have_lines p typed maker.owner there.0 there.1 in
       let itself = is_subclass_refl p.classes maker.owner line in
       make_instance_ends p wanted maker.owner there.0 (λ o. arguments p part es [] (λ args. construct p part (length p.classes) k o args >> gives (outcome.Value (value.Ref o)))) w there.1 fits.world (λ o u on is_kind.
@@ -207,7 +188,7 @@ module _ (p : Program) (typed : IsWellTyped p) (part : Parts) (safe : AreSafe p 
       EndsAs p Wanted.NormalEnd w (option_map_or (λ e. part.expr e >>= (λ v. write_cell o message_place v)) message (gives outcome.Normal) w)
   message_ends o c None w built_in passes fits is_kind = gives_ends p Wanted.NormalEnd w outcome.Normal fits.world tt
   message_ends o c (Some e) w built_in passes fits is_kind =
-      field_written p typed part safe s o c message_place e ty.Text w fits (and_r (not (c == 0)) (fits_part p ty.Text (type_of p s e)) passes) is_kind (placed c built_in (and_l (not (c == 0)) (fits_part p ty.Text (type_of p s e)) passes))
+      field_written p typed part safe s o c message_place e ty.Text w fits (second_so (not (c == 0)) (fits_part p ty.Text (type_of p s e)) passes) is_kind (placed c built_in (first_so (not (c == 0)) (fits_part p ty.Text (type_of p s e)) passes))
     where
       placed : (c : ℕ) → IsTrue (is_built_in c) → IsTrue (not (c == 0)) → slice_get (types_of_fields p c) message_place ≡ Some ty.Text
       placed zero built_in no_object = absurd (false≢true no_object)
@@ -217,21 +198,21 @@ module _ (p : Program) (typed : IsWellTyped p) (part : Parts) (safe : AreSafe p 
   built_in_ends c message t w is fits =
       let passes = option_map_or (λ e. not (c == 0) && fits_part p ty.Text (type_of p s e)) message true in
       let test = where_some (is_built_in c && passes) (ty.Class c) t is in
-      let built_in = and_l (is_built_in c) passes test.0 in
+      let built_in = first_so (is_built_in c) passes test.0 in
       let there = built_ins.built_in_there p typed c built_in in
       let itself = is_subclass_refl p.classes c (programs.have_lines p typed c there.0 there.1) in
       subst (λ r. EndsAs p (Wanted.ValueOf r) w (new_built_in p part c message w)) test.1
       (make_instance_ends p (Wanted.ValueOf (ty.Class c)) c there.0 (λ o. option_map_or (λ e. part.expr e >>= (λ v. write_cell o message_place v)) message (gives outcome.Normal) >> gives (outcome.Value (value.Ref o))) w there.1 fits.world (λ o u on is_kind.
       normal_then_ends p (Wanted.ValueOf (ty.Class c)) (gives (outcome.Value (value.Ref o))) u (option_map_or (λ e. part.expr e >>= (λ v. write_cell o message_place v)) message (gives outcome.Normal) u)
-      (message_ends o c message u built_in (and_r (is_built_in c) passes test.0) (scope_on p s w u fits on) is_kind) (λ x further.
+      (message_ends o c message u built_in (second_so (is_built_in c) passes test.0) (scope_on p s w u fits on) is_kind) (λ x further.
       gives_ends p (Wanted.ValueOf (ty.Class c)) x (outcome.Value (value.Ref o)) further.world (of_class x.now o c (kind_grown u.now x.now o (kind.Instance c) further.grown is_kind) itself))))
 
   new_array_node_ends : (f : Ty) (e : Expr) (t : Ty) (w : World) → TypedLayer (Expr-F.NewArray f e) t → FitsScope p s w → EndsAs p (Wanted.ValueOf t) w (expr_node p part (Expr-F.NewArray f e) w)
   new_array_node_ends f e t w is fits =
       let test = where_some (has is_int (type_of p s e) && is_value_type (length p.classes) f) (type.Array f) t is in
       subst (λ r. EndsAs p (Wanted.ValueOf r) w (expr_node p part (Expr-F.NewArray f e) w)) test.1
-      (tested_part e is_int (Wanted.ValueOf (type.Array f)) (new_array p f) w (and_l (has is_int (type_of p s e)) (is_value_type (length p.classes) f) test.0) fits (λ a v u int fits_u on of_type.
-      new_array_ends p typed f v u fits_u.world (and_r (has is_int (type_of p s e)) (is_value_type (length p.classes) f) test.0) (subst (FitsType p u.now v) (int_type a int) of_type)))
+      (tested_part e is_int (Wanted.ValueOf (type.Array f)) (new_array p f) w (first_so (has is_int (type_of p s e)) (is_value_type (length p.classes) f) test.0) fits (λ a v u int fits_u on of_type.
+      new_array_ends p typed f v u fits_u.world (second_so (has is_int (type_of p s e)) (is_value_type (length p.classes) f) test.0) (subst (FitsType p u.now v) (int_type a int) of_type)))
 
   -- ---- operators
 
@@ -240,13 +221,11 @@ module _ (p : Program) (typed : IsWellTyped p) (part : Parts) (safe : AreSafe p 
 
   parts_of_tests : (test : Ty → Bool) (x y : PartType) {Q : Type 0} → IsTrue (has test x && has test y) → ((a b : Ty) → x ≡ Some a → y ≡ Some b → Q) → Q
   parts_of_tests test x y {Q = Q} passes next =
-      part_of_test test x {Q = Q} (and_l (has test x) (has test y) passes) (λ a is_a. part_of_test test y {Q = Q} (and_r (has test x) (has test y) passes) (λ b is_b. next a b is_a is_b))
+      part_of_test test x {Q = Q} (first_so (has test x) (has test y) passes) (λ a is_a. part_of_test test y {Q = Q} (second_so (has test x) (has test y) passes) (λ b is_b. next a b is_a is_b))
 
   unary_part : (op : UnOp) (x : PartType) (t : Ty) {Q : Type 0} → unary_type op x ≡ Some t → ((a : Ty) → x ≡ Some a → Q) → Q
   unary_part unary.Not x t {Q = Q} is next = part_of_test is_boolean x {Q = Q} (where_some (has is_boolean x) ty.Bool t is).0 next
-  unary_part unary.Plus x t {Q = Q} is next = part_of_test is_int x {Q = Q} (where_some (has is_int x) ty.Int t is).0 next
-  unary_part unary.Neg x t {Q = Q} is next = part_of_test is_int x {Q = Q} (where_some (has is_int x) ty.Int t is).0 next
-  unary_part unary.Flip x t {Q = Q} is next = part_of_test is_int x {Q = Q} (where_some (has is_int x) ty.Int t is).0 next
+  unary_part _ x t {Q = Q} is next = part_of_test is_int x {Q = Q} (where_some (has is_int x) ty.Int t is).0 next
 
   bitwise_parts : (x y : PartType) (t : Ty) {Q : Type 0} → bitwise_type x y ≡ Some t → ((a b : Ty) → x ≡ Some a → y ≡ Some b → Q) → Q
   bitwise_parts x y t {Q = Q} is next = cases (booleans x y) refl is
@@ -266,18 +245,7 @@ module _ (p : Program) (typed : IsWellTyped p) (part : Parts) (safe : AreSafe p 
   binary_parts binary.BitXor x y t {Q = Q} is next = bitwise_parts x y t {Q = Q} is next
   binary_parts binary.Eq x y t {Q = Q} is next = equality_parts x y t {Q = Q} is next
   binary_parts binary.Ne x y t {Q = Q} is next = equality_parts x y t {Q = Q} is next
-  binary_parts binary.Lt x y t {Q = Q} is next = parts_of_tests is_int x y {Q = Q} (where_some (ints x y) ty.Bool t is).0 next
-  binary_parts binary.Le x y t {Q = Q} is next = parts_of_tests is_int x y {Q = Q} (where_some (ints x y) ty.Bool t is).0 next
-  binary_parts binary.Gt x y t {Q = Q} is next = parts_of_tests is_int x y {Q = Q} (where_some (ints x y) ty.Bool t is).0 next
-  binary_parts binary.Ge x y t {Q = Q} is next = parts_of_tests is_int x y {Q = Q} (where_some (ints x y) ty.Bool t is).0 next
-  binary_parts binary.Add x y t {Q = Q} is next = parts_of_tests is_int x y {Q = Q} (where_some (ints x y) ty.Int t is).0 next
-  binary_parts binary.Sub x y t {Q = Q} is next = parts_of_tests is_int x y {Q = Q} (where_some (ints x y) ty.Int t is).0 next
-  binary_parts binary.Mul x y t {Q = Q} is next = parts_of_tests is_int x y {Q = Q} (where_some (ints x y) ty.Int t is).0 next
-  binary_parts binary.Div x y t {Q = Q} is next = parts_of_tests is_int x y {Q = Q} (where_some (ints x y) ty.Int t is).0 next
-  binary_parts binary.Rem x y t {Q = Q} is next = parts_of_tests is_int x y {Q = Q} (where_some (ints x y) ty.Int t is).0 next
-  binary_parts binary.Shl x y t {Q = Q} is next = parts_of_tests is_int x y {Q = Q} (where_some (ints x y) ty.Int t is).0 next
-  binary_parts binary.Shr x y t {Q = Q} is next = parts_of_tests is_int x y {Q = Q} (where_some (ints x y) ty.Int t is).0 next
-  binary_parts binary.Ushr x y t {Q = Q} is next = parts_of_tests is_int x y {Q = Q} (where_some (ints x y) ty.Int t is).0 next
+  binary_parts _ x y t {Q = Q} is next = parts_of_tests is_int x y {Q = Q} (where_some (ints x y) _ t is).0 next
 
   unary_node_ends : (op : UnOp) (e : Expr) (t : Ty) (w : World) → TypedLayer (Expr-F.Unary op e) t → FitsScope p s w → EndsAs p (Wanted.ValueOf t) w (expr_node p part (Expr-F.Unary op e) w)
   unary_node_ends op e t w is fits =
@@ -295,10 +263,10 @@ module _ (p : Program) (typed : IsWellTyped p) (part : Parts) (safe : AreSafe p 
   concat_node_ends : (e f : Expr) (t : Ty) (w : World) → TypedLayer (Expr-F.Concat e f) t → FitsScope p s w → EndsAs p (Wanted.ValueOf t) w (expr_node p part (Expr-F.Concat e f) w)
   concat_node_ends e f t w is fits =
       let test = where_some ((has_text (type_of p s e) && has_text (type_of p s f)) && (has is_text_or_null (type_of p s e) || has is_text_or_null (type_of p s f))) ty.Text t is in
-      let texts = and_l (has_text (type_of p s e) && has_text (type_of p s f)) (has is_text_or_null (type_of p s e) || has is_text_or_null (type_of p s f)) test.0 in
+      let texts = first_so (has_text (type_of p s e) && has_text (type_of p s f)) (has is_text_or_null (type_of p s e) || has is_text_or_null (type_of p s f)) test.0 in
       subst (λ r. EndsAs p (Wanted.ValueOf r) w (expr_node p part (Expr-F.Concat e f) w)) test.1
-      (tested_part e (λ a. has_text (Some a)) (Wanted.ValueOf ty.Text) (λ x. part.expr f >>= (λ y. computed p (concatenated x y))) w (and_l (has_text (type_of p s e)) (has_text (type_of p s f)) texts) fits (λ a v u text_a fits_u on of_type.
-      tested_part f (λ b. has_text (Some b)) (Wanted.ValueOf ty.Text) (λ y. computed p (concatenated v y)) u (and_r (has_text (type_of p s e)) (has_text (type_of p s f)) texts) fits_u (λ b y x text_b fits_x further of_other.
+      (tested_part e (λ a. has_text (Some a)) (Wanted.ValueOf ty.Text) (λ x. part.expr f >>= (λ y. computed p (concatenated x y))) w (first_so (has_text (type_of p s e)) (has_text (type_of p s f)) texts) fits (λ a v u text_a fits_u on of_type.
+      tested_part f (λ b. has_text (Some b)) (Wanted.ValueOf ty.Text) (λ y. computed p (concatenated v y)) u (second_so (has_text (type_of p s e)) (has_text (type_of p s f)) texts) fits_u (λ b y x text_b fits_x further of_other.
       computed_ends p typed ty.Text (concatenated v y) x fits_x.world (concatenated_computes p x.now v y a b text_a text_b (fits_grown p u.now x.now v a further.grown of_type) of_other))))
 
   -- ---- choices
@@ -307,17 +275,17 @@ module _ (p : Program) (typed : IsWellTyped p) (part : Parts) (safe : AreSafe p 
   and_node_ends e f t w is fits =
       let test = where_some (booleans (type_of p s e) (type_of p s f)) ty.Bool t is in
       subst (λ r. EndsAs p (Wanted.ValueOf r) w (expr_node p part (Expr-F.And e f) w)) test.1
-      (tested_part e is_boolean (Wanted.ValueOf ty.Bool) (λ x. choose x (part.expr f) (gives (outcome.Value (value.Bool false)))) w (and_l (has is_boolean (type_of p s e)) (has is_boolean (type_of p s f)) test.0) fits (λ a v u boolean fits_u on of_type.
-      choose_ends (Wanted.ValueOf ty.Bool) v (part.expr f) (gives (outcome.Value (value.Bool false))) u (subst (FitsType p u.now v) (boolean_type a boolean) of_type)
-      (boolean_part f u (and_r (has is_boolean (type_of p s e)) (has is_boolean (type_of p s f)) test.0) fits_u) (gives_ends p (Wanted.ValueOf ty.Bool) u (outcome.Value (value.Bool false)) fits_u.world is_boolean_boolean)))
+      (tested_part e is_boolean (Wanted.ValueOf ty.Bool) (λ x. choose x (part.expr f) (gives (outcome.Value (value.Bool false)))) w (first_so (has is_boolean (type_of p s e)) (has is_boolean (type_of p s f)) test.0) fits (λ a v u boolean fits_u on of_type.
+      choose_by p (EndsAs p (Wanted.ValueOf ty.Bool) u) v (part.expr f) (gives (outcome.Value (value.Bool false))) u (subst (FitsType p u.now v) (boolean_type a boolean) of_type)
+      (boolean_part f u (second_so (has is_boolean (type_of p s e)) (has is_boolean (type_of p s f)) test.0) fits_u) (gives_ends p (Wanted.ValueOf ty.Bool) u (outcome.Value (value.Bool false)) fits_u.world is_boolean-Bool)))
 
   or_node_ends : (e f : Expr) (t : Ty) (w : World) → TypedLayer (Expr-F.Or e f) t → FitsScope p s w → EndsAs p (Wanted.ValueOf t) w (expr_node p part (Expr-F.Or e f) w)
   or_node_ends e f t w is fits =
       let test = where_some (booleans (type_of p s e) (type_of p s f)) ty.Bool t is in
       subst (λ r. EndsAs p (Wanted.ValueOf r) w (expr_node p part (Expr-F.Or e f) w)) test.1
-      (tested_part e is_boolean (Wanted.ValueOf ty.Bool) (λ x. choose x (gives (outcome.Value (value.Bool true))) (part.expr f)) w (and_l (has is_boolean (type_of p s e)) (has is_boolean (type_of p s f)) test.0) fits (λ a v u boolean fits_u on of_type.
-      choose_ends (Wanted.ValueOf ty.Bool) v (gives (outcome.Value (value.Bool true))) (part.expr f) u (subst (FitsType p u.now v) (boolean_type a boolean) of_type)
-      (gives_ends p (Wanted.ValueOf ty.Bool) u (outcome.Value (value.Bool true)) fits_u.world is_boolean_boolean) (boolean_part f u (and_r (has is_boolean (type_of p s e)) (has is_boolean (type_of p s f)) test.0) fits_u)))
+      (tested_part e is_boolean (Wanted.ValueOf ty.Bool) (λ x. choose x (gives (outcome.Value (value.Bool true))) (part.expr f)) w (first_so (has is_boolean (type_of p s e)) (has is_boolean (type_of p s f)) test.0) fits (λ a v u boolean fits_u on of_type.
+      choose_by p (EndsAs p (Wanted.ValueOf ty.Bool) u) v (gives (outcome.Value (value.Bool true))) (part.expr f) u (subst (FitsType p u.now v) (boolean_type a boolean) of_type)
+      (gives_ends p (Wanted.ValueOf ty.Bool) u (outcome.Value (value.Bool true)) fits_u.world is_boolean-Bool) (boolean_part f u (second_so (has is_boolean (type_of p s e)) (has is_boolean (type_of p s f)) test.0) fits_u)))
 
   -- the type of a choice: both values can be assigned to it
   wider_parts : (x y : PartType) (t : Ty) {Q : Type 0} → wider p x y ≡ Some t → ((a b : Ty) → x ≡ Some a → y ≡ Some b → ((w : World) (n : Answer) → EndsAs p (Wanted.ValueOf a) w n → EndsAs p (Wanted.ValueOf t) w n) → ((w : World) (n : Answer) → EndsAs p (Wanted.ValueOf b) w n → EndsAs p (Wanted.ValueOf t) w n) → Q) → Q
@@ -341,7 +309,7 @@ module _ (p : Program) (typed : IsWellTyped p) (part : Parts) (safe : AreSafe p 
       cases true test is =
           wider_parts (type_of p s f) (type_of p s g) t {Q = EndsAs p (Wanted.ValueOf t) w (expr_node p part (Expr-F.Cond e f g) w)} is (λ a b is_a is_b from_a from_b.
           tested_part e is_boolean (Wanted.ValueOf t) (λ x. choose x (part.expr f) (part.expr g)) w test fits (λ c v u boolean fits_u on of_type.
-          choose_ends (Wanted.ValueOf t) v (part.expr f) (part.expr g) u (subst (FitsType p u.now v) (boolean_type c boolean) of_type)
+          choose_by p (EndsAs p (Wanted.ValueOf t) u) v (part.expr f) (part.expr g) u (subst (FitsType p u.now v) (boolean_type c boolean) of_type)
           (from_a u (part.expr f u) (safe.expr s f a u is_a fits_u)) (from_b u (part.expr g u) (safe.expr s g b u is_b fits_u))))
 
   -- ---- casts
@@ -366,10 +334,10 @@ module _ (p : Program) (typed : IsWellTyped p) (part : Parts) (safe : AreSafe p 
   local_ends at t w is fits = read_local_ends p s at t w fits is
 
   pub node_ends : (x : Expr-F Expr) (t : Ty) (w : World) → TypedLayer x t → FitsScope p s w → EndsAs p (Wanted.ValueOf t) w (expr_node p part x w)
-  node_ends (Expr-F.Int n) t w is fits = let test = where_some (is_int_number n) ty.Int t is in gives_ends p (Wanted.ValueOf t) w (outcome.Value (value.Int n)) fits.world (subst (FitsType p w.now (value.Int n)) test.1 is_int_int)
-  node_ends (Expr-F.Bool b) t w is fits = gives_ends p (Wanted.ValueOf t) w (outcome.Value (value.Bool b)) fits.world (subst (FitsType p w.now (value.Bool b)) (same_Some ty.Bool t is) is_boolean_boolean)
+  node_ends (Expr-F.Int n) t w is fits = let test = where_some (is_int_number n) ty.Int t is in gives_ends p (Wanted.ValueOf t) w (outcome.Value (value.Int n)) fits.world (subst (FitsType p w.now (value.Int n)) test.1 is_int-Int)
+  node_ends (Expr-F.Bool b) t w is fits = gives_ends p (Wanted.ValueOf t) w (outcome.Value (value.Bool b)) fits.world (subst (FitsType p w.now (value.Bool b)) (same_Some ty.Bool t is) is_boolean-Bool)
   node_ends (Expr-F.Text text) t w is fits = subst (λ r. EndsAs p (Wanted.ValueOf r) w (computed p (literal (value.Text text)) w)) (same_Some ty.Text t is) (computed_ends p typed ty.Text (literal (value.Text text)) w fits.world (literal_computes p w.now text))
-  node_ends Expr-F.Null t w is fits = gives_ends p (Wanted.ValueOf t) w (outcome.Value value.Null) fits.world (subst (FitsType p w.now value.Null) (same_Some ty.Null t is) has_null_null)
+  node_ends Expr-F.Null t w is fits = gives_ends p (Wanted.ValueOf t) w (outcome.Value value.Null) fits.world (subst (FitsType p w.now value.Null) (same_Some ty.Null t is) (rw is_null-Null refl))
   node_ends Expr-F.This t w is fits = this_ends w.this s.this t w fits.world fits.this (this_type s.this t is)
   node_ends (Expr-F.Local at) t w is fits = local_ends at t w is fits
   node_ends (Expr-F.Field e at) t w is fits = field_node_ends e at t w is fits

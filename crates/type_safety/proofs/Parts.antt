@@ -47,14 +47,10 @@ value_then_ends p wanted t go w a ends next = cases a.outcome a.world a.out a.ke
   where
     cases : (o : Outcome) (u : World) (out : List ℕ) (kept : List KeptCall) → Follows p w u → Meets p (Wanted.ValueOf t) u.now o → EndsAs p wanted w (value_then go (record { outcome = o; world = u; out = out; kept = kept }))
     cases (outcome.Value v) u out kept on meets = record { world = follows_trans p w u (go v u).world on (next v u on meets).world; outcome = (next v u on meets).outcome }
-    cases outcome.Normal u out kept on meets = absurd meets
-    cases (outcome.Return v) u out kept on meets = absurd meets
-    cases outcome.Break u out kept on meets = absurd meets
-    cases outcome.Continue u out kept on meets = absurd meets
     cases (outcome.Throw o) u out kept on meets = record { world = on; outcome = meets }
     cases outcome.Spent u out kept on meets = record { world = on; outcome = meets }
     cases (outcome.Full what) u out kept on meets = record { world = on; outcome = meets }
-    cases outcome.Stuck u out kept on meets = absurd meets
+    cases _ u out kept on meets = absurd meets
 
 pub value_then_in : (p : Program) (s : Scope) (wanted : Wanted) (t : Ty) (go : Value → Run) (w : World) (a : Answer) → FitsScope p s w → EndsAs p (Wanted.ValueOf t) w a →
     ((v : Value) (u : World) → FitsScope p s u → Follows p w u → FitsType p u.now v t → EndsIn p s wanted u (go v u)) → EndsIn p s wanted w (value_then go a)
@@ -64,14 +60,10 @@ value_then_in p s wanted t go w a fits ends next = cases a.outcome a.world a.out
     cases (outcome.Value v) u out kept on meets =
         let then = next v u (scope_on p s w u fits on) on meets in
         record { world = then.world; grown = grown_trans w.now u.now (go v u).world.now on.grown then.grown; outcome = then.outcome }
-    cases outcome.Normal u out kept on meets = absurd meets
-    cases (outcome.Return v) u out kept on meets = absurd meets
-    cases outcome.Break u out kept on meets = absurd meets
-    cases outcome.Continue u out kept on meets = absurd meets
     cases (outcome.Throw o) u out kept on meets = record { world = scope_on p s w u fits on; grown = on.grown; outcome = meets }
     cases outcome.Spent u out kept on meets = record { world = scope_on p s w u fits on; grown = on.grown; outcome = meets }
     cases (outcome.Full what) u out kept on meets = record { world = scope_on p s w u fits on; grown = on.grown; outcome = meets }
-    cases outcome.Stuck u out kept on meets = absurd meets
+    cases _ u out kept on meets = absurd meets
 
 -- goes on after a normal end
 pub normal_then_ends : (p : Program) (wanted : Wanted) (go : Run) (w : World) (a : Answer) → EndsAs p Wanted.NormalEnd w a →
@@ -79,45 +71,31 @@ pub normal_then_ends : (p : Program) (wanted : Wanted) (go : Run) (w : World) (a
 normal_then_ends p wanted go w a ends next = cases a.outcome a.world a.out a.kept ends.world ends.outcome
   where
     cases : (o : Outcome) (u : World) (out : List ℕ) (kept : List KeptCall) → Follows p w u → Meets p Wanted.NormalEnd u.now o → EndsAs p wanted w (normal_then go (record { outcome = o; world = u; out = out; kept = kept }))
-    cases (outcome.Value v) u out kept on meets = absurd meets
     cases outcome.Normal u out kept on meets = record { world = follows_trans p w u (go u).world on (next u on).world; outcome = (next u on).outcome }
-    cases (outcome.Return v) u out kept on meets = absurd meets
-    cases outcome.Break u out kept on meets = absurd meets
-    cases outcome.Continue u out kept on meets = absurd meets
     cases (outcome.Throw o) u out kept on meets = record { world = on; outcome = meets }
     cases outcome.Spent u out kept on meets = record { world = on; outcome = meets }
     cases (outcome.Full what) u out kept on meets = record { world = on; outcome = meets }
-    cases outcome.Stuck u out kept on meets = absurd meets
+    cases _ u out kept on meets = absurd meets
 
 pub normal_then_in : (p : Program) (s : Scope) (wanted : Wanted) (go : Run) (w : World) (a : Answer) → EndsIn p s wanted w a →
     ((u : World) → FitsScope p s u → HasGrown w.now u.now → EndsIn p s wanted u (go u)) → EndsIn p s wanted w (normal_then go a)
 normal_then_in p s wanted go w a ends next = cases a.outcome a.world a.out a.kept ends.world ends.grown ends.outcome
   where
     cases : (o : Outcome) (u : World) (out : List ℕ) (kept : List KeptCall) → FitsScope p s u → HasGrown w.now u.now → Meets p wanted u.now o → EndsIn p s wanted w (normal_then go (record { outcome = o; world = u; out = out; kept = kept }))
-    cases (outcome.Value v) u out kept fits grown meets = record { world = fits; grown = grown; outcome = meets }
     cases outcome.Normal u out kept fits grown meets = record { world = (next u fits grown).world; grown = grown_trans w.now u.now (go u).world.now grown (next u fits grown).grown; outcome = (next u fits grown).outcome }
-    cases (outcome.Return v) u out kept fits grown meets = record { world = fits; grown = grown; outcome = meets }
-    cases outcome.Break u out kept fits grown meets = record { world = fits; grown = grown; outcome = meets }
-    cases outcome.Continue u out kept fits grown meets = record { world = fits; grown = grown; outcome = meets }
-    cases (outcome.Throw o) u out kept fits grown meets = record { world = fits; grown = grown; outcome = meets }
-    cases outcome.Spent u out kept fits grown meets = record { world = fits; grown = grown; outcome = meets }
-    cases (outcome.Full what) u out kept fits grown meets = record { world = fits; grown = grown; outcome = meets }
     cases outcome.Stuck u out kept fits grown meets = absurd meets
+    cases _ u out kept fits grown meets = record { world = fits; grown = grown; outcome = meets }
 
 -- a part that asks for a normal end alone may stand as a statement
 pub normal_is_statement : (p : Program) (s : Scope) (t : Ty) (inside : Bool) (w : World) (a : Answer) → EndsIn p s Wanted.NormalEnd w a → EndsIn p s (Wanted.StatementEnd t inside) w a
 normal_is_statement p s t inside w a ends = record { world = ends.world; grown = ends.grown; outcome = cases a.outcome ends.outcome }
   where
     cases : (o : Outcome) → Meets p Wanted.NormalEnd a.world.now o → Meets p (Wanted.StatementEnd t inside) a.world.now o
-    cases (outcome.Value v) meets = absurd meets
     cases outcome.Normal meets = meets
-    cases (outcome.Return v) meets = absurd meets
-    cases outcome.Break meets = absurd meets
-    cases outcome.Continue meets = absurd meets
     cases (outcome.Throw o) meets = meets
     cases outcome.Spent meets = meets
     cases (outcome.Full what) meets = meets
-    cases outcome.Stuck meets = absurd meets
+    cases _ meets = absurd meets
 
 -- ---- the entry of a node
 

@@ -1,14 +1,14 @@
 -- Whole runs: every part is safe, whatever the number of steps, and no run of a well-typed program is stuck.
-use Rattle.std.proofs.Common.{Option, ◌≡◌, ◌∙◌, ℕ, zero, suc, Bool, true, false, not, nat_le, IsTrue, List, [], ◌∷◌, length, Some, None, slice_get, refl, subst, sym, ap, arith, if◌then◌else◌}
+use Rattle.std.proofs.Common.{Option, ◌≡◌, ℕ, zero, suc, Bool, true, false, not, nat_le, IsTrue, List, [], ◌∷◌, length, Some, None, slice_get, refl, subst, sym, ap, arith, if◌then◌else◌}
 use Rattle.std.specs.Prelude.{option_and_then}
 use Rattle.std.specs.Option.{option_map_or}
 use Rattle.std.proofs.lemmas.Option.{none-some, same_Some}
 use Rattle.std.proofs.lemmas.Bool.{false≢true, leb-true, not-true}
+use Rattle.std.specs.Cmp.{first_so, second_so}
 use Rattle.core_tree.specs.Text.{code_units}
 use Rattle.core_tree.specs.declared.ty.Ty.{Ty}
 use Rattle.core_tree.specs.declared.ty.Ty.TheVariants as ty
 use Rattle.core_tree.specs.declared.ty.Ty.TheViews as type
-use Rattle.core_tree.specs.declared.ty.Ty.TheOpen.{Ty-F}
 use Rattle.core_tree.specs.declared.what.What.TheVariants as what
 use Rattle.core_tree.specs.declared.stmt.Stmt.{out-Stmt}
 use Rattle.core_tree.specs.declared.expr.Expr.{out-Expr}
@@ -32,9 +32,11 @@ use Rattle.evaluation.specs.Execute.{stmt_node, meaning}
 use Rattle.evaluation.specs.Run.{arguments_heap, first_world, has_short_arguments, run_main, run, Ending, uncaught, ending_of, ending, message_of}
 use Rattle.type_safety.specs.Fits.{FitsType, FitsKind, FitsHeap, FitsThis, FitsScope}
 use Rattle.type_safety.specs.Ends.{Wanted, Meets, AreSafe}
-use Rattle.type_safety.proofs.Assignable.{found_passes, array_to_array, value_opens, is_assignable_refl}
-use Rattle.type_safety.proofs.Lists.{and_l, and_r, all_at, mapped_at}
-use Rattle.type_safety.proofs.Values.{object_cases, of_kind, is_string_text}
+use Rattle.core_tree.proofs.TypeFacts.{found_passes, is_string-Text}
+use Rattle.core_tree.proofs.TypeNodes.{is_value_type-Text}
+use Rattle.type_safety.proofs.Assignable.{array_to_array, is_assignable_refl}
+use Rattle.type_safety.proofs.Lists.{all_at, mapped_at}
+use Rattle.type_safety.proofs.Values.{object_cases, of_kind}
 use Rattle.type_safety.proofs.Parts.{gives_ends, gives_in, enter_ends, enter_in, scope_fuel}
 use Rattle.type_safety.proofs.Programs as programs
 use Rattle.type_safety.proofs.Methods.{same_lists, method_passes}
@@ -59,7 +61,7 @@ are_safe p typed (suc k) = record {
 -- ---- the beginning
 
 text_is_value : (classes : ℕ) → IsTrue (is_value_type classes ty.Text)
-text_is_value classes = ap (is_value_type classes) (sym ty.rolls-Text) ∙ value_opens classes Ty-F.Text
+text_is_value classes = is_value_type-Text classes
 
 module _ (p : Program) (typed : IsWellTyped p) where
   arguments_fit : (args : List (List ℕ)) → IsTrue (has_short_arguments args) → FitsHeap p (arguments_heap args)
@@ -68,15 +70,15 @@ module _ (p : Program) (typed : IsWellTyped p) where
     text_is_value (length p.classes),
     λ at v is_v.
         let arg = mapped_at value.Text args at v is_v in
-        subst (λ u. FitsType p (arguments_heap args) u ty.Text) arg.2 (is_string_text, leb-true (code_units arg.0) most_units (all_at (λ a. nat_le (code_units a) most_units) args at arg.0 short arg.1)),
+        subst (λ u. FitsType p (arguments_heap args) u ty.Text) arg.2 (is_string-Text, leb-true (code_units arg.0) most_units (all_at (λ a. nat_le (code_units a) most_units) args at arg.0 short arg.1)),
   )
 
   begins : (main : Method) (args : List (List ℕ)) (steps : ℕ) (journal : List Entry) → IsTrue (is_main main) → IsTrue (has_short_arguments args) → FitsScope p (method_scope main) (first_world main args steps journal)
   begins main args steps journal is short = record {
     world = record { heap = arguments_fit args short; live = omega arith };
-    this = no_this (and_l (not main.on_object) (same_types main.params (type.Array ty.Text ∷ [])) is);
+    this = no_this (first_so (not main.on_object) (same_types main.params (type.Array ty.Text ∷ [])) is);
     locals = locals_fit p (arguments_heap args) (value.Ref 0 ∷ []) main.params main.locals
-        (subst (FitAll p (arguments_heap args) (value.Ref 0 ∷ [])) (sym (same_lists main.params (type.Array ty.Text ∷ []) (and_r (not main.on_object) (same_types main.params (type.Array ty.Text ∷ [])) is)))
+        (subst (FitAll p (arguments_heap args) (value.Ref 0 ∷ [])) (sym (same_lists main.params (type.Array ty.Text ∷ []) (second_so (not main.on_object) (same_types main.params (type.Array ty.Text ∷ [])) is)))
         (of_kind p (arguments_heap args) 0 (type.Array ty.Text) (kind.Array ty.Text) refl (array_to_array p.classes ty.Text ty.Text (is_assignable_refl p.classes (programs.have_lines p typed) ty.Text (text_is_value (length p.classes)))), tt));
   }
     where
@@ -101,17 +103,14 @@ module _ (p : Program) (typed : IsWellTyped p) where
 
   meets_ending : (t : Ty) (h : Heap) (o : Outcome) → Meets p (Wanted.StatementEnd t false) h o → EndsWell (ending_of h o)
   meets_ending t h (outcome.Value v) meets = absurd meets
-  meets_ending t h outcome.Normal meets = tt
-  meets_ending t h (outcome.Return v) meets = tt
   meets_ending t h outcome.Break meets = absurd (false≢true meets)
   meets_ending t h outcome.Continue meets = absurd (false≢true meets)
   meets_ending t h (outcome.Throw o) meets = uncaught_ends h o meets
-  meets_ending t h outcome.Spent meets = tt
-  meets_ending t h (outcome.Full what) meets = tt
   meets_ending t h outcome.Stuck meets = absurd meets
+  meets_ending t h _ meets = tt
 
   main_body : (m : Method) → IsTrue (is_method p m) → IsTrue (is_typed_body p (method_scope m) m.body)
-  main_body m passes = search (and_l, and_r)
+  main_body m passes = search (first_so, second_so)
 
   main_ends : (main : Method) (args : List (List ℕ)) (steps : ℕ) (journal : List Entry) → slice_get p.methods p.main ≡ Some main → IsTrue (is_main main) → EndsWell (ending (run_main p args (first_world main args steps journal)))
   main_ends main args steps journal is_main passes = short (has_short_arguments args) refl

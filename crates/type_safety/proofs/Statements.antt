@@ -4,7 +4,8 @@ use Rattle.std.specs.Prelude.{option_and_then}
 use Rattle.std.specs.Option.{option_map_or}
 use Rattle.std.specs.List.{list_all}
 use Rattle.std.proofs.lemmas.Option.{none-some, same_Some, option_and_then_some}
-use Rattle.std.proofs.lemmas.Bool.{false≢true, and_from, or_cases, or_left, or_right}
+use Rattle.std.proofs.lemmas.Bool.{and_from, or_cases}
+use Rattle.std.specs.Cmp.{first_so, second_so}
 use Rattle.core_tree.specs.declared.ty.Ty.{Ty}
 use Rattle.core_tree.specs.declared.ty.Ty.TheVariants as ty
 use Rattle.core_tree.specs.declared.built_in.BuiltIn.{BuiltIn}
@@ -20,8 +21,8 @@ use Rattle.core_tree.specs.declared.stmt.Stmt.TheFolds.{fold_out-Stmt, fold_out-
 use Rattle.core_tree.specs.declared.stmt.Catch.{Catch, out-Catch}
 use Rattle.core_tree.specs.declared.program.Program.{Program}
 use Rattle.core_tree.specs.BuiltIn.{number_of}
-use Rattle.core_tree.specs.Types.{class_of, elements_of, is_int, is_boolean, is_string, is_null, is_subclass, is_assignable, is_same_type}
-use Rattle.core_tree.specs.Typing.{Scope, PartType, InLoop, has, fits as fits_part, has_text, ints, booleans, field_type, is_throwable, type_of, target_type, operand_type, is_update, if_there, all_of, is_condition, catch_node, is_typed_stmt}
+use Rattle.core_tree.specs.Types.{class_of, elements_of, is_int, is_boolean, is_string, is_subclass, is_assignable, is_same_type}
+use Rattle.core_tree.specs.Typing.{Scope, PartType, InLoop, has, fits as fits_part, has_text, ints, booleans, field_type, is_throwable, type_of, target_type, operand_type, is_update, is_counting, if_there, all_of, is_condition, catch_node, is_typed_stmt}
 use Rattle.core_tree.specs.Typing as typing
 use Rattle.core_tree.specs.WellTyped.{IsWellTyped}
 use Rattle.heap_arena.specs.declared.cell.Cell.TheVariants as value
@@ -39,34 +40,28 @@ use Rattle.evaluation.specs.Evaluate.{choose}
 use Rattle.evaluation.specs.Execute.{printed, prints, print_value, handler, throw, keeping, finally, with_target, assign, operand, update_place, tested, after_body, body_of, turn, handled, catch_object, catching, finally_if, stmt_node}
 use Rattle.type_safety.specs.Fits.{FitsType, FitsScope, HasGrown}
 use Rattle.type_safety.specs.Ends.{Wanted, Meets, Follows, EndsAs, EndsIn, IsTypedLoop, IsThrown, AreSafe}
-use Rattle.type_safety.proofs.Assignable.{found_passes, class_type, array_type, same_type, to_class, is_object_class, int_type, boolean_type}
-use Rattle.type_safety.proofs.Lists.{and_l, and_r}
-use Rattle.type_safety.proofs.Values.{fits_grown, fits_on, default_fits, of_kind, object_cases, object_grown, grown_refl, grown_trans, is_int_int}
+use Rattle.core_tree.proofs.TypeFacts.{found_passes, class_type, array_type, is_object_class, int_type, boolean_type, is_int-Int}
+use Rattle.type_safety.proofs.Assignable.{same_type, to_class}
+use Rattle.type_safety.proofs.Values.{fits_grown, fits_on, default_fits, of_kind, object_cases, object_grown, grown_refl, grown_trans}
 use Rattle.type_safety.proofs.Parts.{in_scope, gives_ends, gives_in, value_then_in, normal_then_in, normal_is_statement}
 use Rattle.type_safety.proofs.Programs as programs
 use Rattle.type_safety.proofs.Making.{trap_ends, computed_ends}
 use Rattle.type_safety.proofs.Places.{FitsPlace, place_grown, write_local_in, read_place_ends, write_place_in}
-use Rattle.type_safety.proofs.Objects.{boolean_value, with_object_by, with_field_by, with_element_by}
+use Rattle.type_safety.proofs.Objects.{with_object_by, with_field_by, with_element_by, choose_by}
 use Rattle.type_safety.proofs.Computing.{has_a_text, update_computes}
 use Rattle.type_safety.proofs.Calls.{block_in}
+use Rattle.type_safety.proofs.Lists.{some_of}
 
 -- what is asked of an outcome holds of it as the heap grows
 meets_grown : (p : Program) (t : Ty) (inside : Bool) (h later : Heap) (o : Outcome) → HasGrown h later → Meets p (Wanted.StatementEnd t inside) h o → Meets p (Wanted.StatementEnd t inside) later o
-meets_grown p t inside h later (outcome.Value v) grown meets = meets
-meets_grown p t inside h later outcome.Normal grown meets = meets
-meets_grown p t inside h later (outcome.Return None) grown meets = meets
 meets_grown p t inside h later (outcome.Return (Some v)) grown meets = fits_grown p h later v t grown meets
-meets_grown p t inside h later outcome.Break grown meets = meets
-meets_grown p t inside h later outcome.Continue grown meets = meets
 meets_grown p t inside h later (outcome.Throw o) grown meets = object_grown p h later o (ty.Class (number_of class.Throwable)) grown meets
-meets_grown p t inside h later outcome.Spent grown meets = meets
-meets_grown p t inside h later (outcome.Full what) grown meets = meets
-meets_grown p t inside h later outcome.Stuck grown meets = meets
+meets_grown p t inside h later _ grown meets = meets
 
 -- a list of statements that are well typed, in the two ways of saying so
 all_typed : (p : Program) (s : Scope) (ss : List Stmt) (inside : Bool) → IsTrue (all_of (map (is_typed_stmt p s) ss) inside) → IsTrue (list_all (λ x. is_typed_stmt p s x inside) ss)
 all_typed p s [] inside all = refl
-all_typed p s (x ∷ xs) inside all = and_from (is_typed_stmt p s x inside) (list_all (λ x. is_typed_stmt p s x inside) xs) (and_l (is_typed_stmt p s x inside) (all_of (map (is_typed_stmt p s) xs) inside) all) (all_typed p s xs inside (and_r (is_typed_stmt p s x inside) (all_of (map (is_typed_stmt p s) xs) inside) all))
+all_typed p s (x ∷ xs) inside all = and_from (is_typed_stmt p s x inside) (list_all (λ x. is_typed_stmt p s x inside) xs) (first_so (is_typed_stmt p s x inside) (all_of (map (is_typed_stmt p s) xs) inside) all) (all_typed p s xs inside (second_so (is_typed_stmt p s x inside) (all_of (map (is_typed_stmt p s) xs) inside) all))
 
 pub one_not_zero : ◌≡◌ {A = ℕ} 1 0 → ⊥
 one_not_zero is = omega arith
@@ -91,19 +86,11 @@ module _ (p : Program) (typed : IsWellTyped p) (part : Parts) (safe : AreSafe p 
   trapped : (inside : Bool) (w : World) → FitsScope p s w → (c : BuiltIn) → IsTrue (not (number_of c == 0)) → Ends inside w (trap p c w)
   trapped inside w fits c below = in_scope p s (Wanted.StatementEnd s.answer inside) w (trap p c w) fits (trap_ends p typed (Wanted.StatementEnd s.answer inside) c w below fits.world)
 
-  choose_in : (inside : Bool) (v : Value) (first second : Run) (w : World) → FitsType p w.now v ty.Bool → Ends inside w (first w) → Ends inside w (second w) → Ends inside w (choose v first second w)
-  choose_in inside v first second w of_type true_ends false_ends =
-      boolean_value p w.now v {Q = Ends inside w (choose v first second w)} of_type (λ b is_v. subst (λ x. Ends inside w (choose x first second w)) (sym is_v) (cases b))
-    where
-      cases : (b : Bool) → Ends inside w (choose (value.Bool b) first second w)
-      cases true = true_ends
-      cases false = false_ends
-
   -- goes on by a condition
   condition_in : (inside : Bool) (e : Expr) (first second : Run) (w : World) → IsTrue (is_condition p s e) → FitsScope p s w → ((u : World) → FitsScope p s u → Ends inside u (first u)) → ((u : World) → FitsScope p s u → Ends inside u (second u)) → Ends inside w ((part.expr e >>= (λ x. choose x first second)) w)
   condition_in inside e first second w passes fits true_ends false_ends =
       tested_part_in e is_boolean (Wanted.StatementEnd s.answer inside) (λ x. choose x first second) w passes fits (λ a v u boolean fits_u on of_type.
-      choose_in inside v first second u (subst (FitsType p u.now v) (boolean_type a boolean) of_type) (true_ends u fits_u) (false_ends u fits_u))
+      choose_by p (Ends inside u) v first second u (subst (FitsType p u.now v) (boolean_type a boolean) of_type) (true_ends u fits_u) (false_ends u fits_u))
 
   statement : (inside : Bool) (w : World) (a : Answer) → EndsIn p s Wanted.NormalEnd w a → Ends inside w a
   statement inside w a ends = normal_is_statement p s s.answer inside w a ends
@@ -119,10 +106,10 @@ module _ (p : Program) (typed : IsWellTyped p) (part : Parts) (safe : AreSafe p 
       statement inside w (write_local at v w) (write_local_in p s at r v w fits is (subst (FitsType p w.now v) (same_type t r same) of_type)))
 
   declare_in : (inside : Bool) (at : ℕ) (t : Ty) (e : Option Expr) (w : World) → IsTrue (has (is_same_type t) (slice_get s.locals at) && if_there p s (fits_part p t) e) → FitsScope p s w → Ends inside w (stmt_node p part (Stmt-F.Declare at t e) w)
-  declare_in inside at t None w passes fits = declared inside at t (default_of t) w (and_l (has (is_same_type t) (slice_get s.locals at)) true passes) fits (default_fits p w.now t)
+  declare_in inside at t None w passes fits = declared inside at t (default_of t) w (first_so (has (is_same_type t) (slice_get s.locals at)) true passes) fits (default_fits p w.now t)
   declare_in inside at t (Some e) w passes fits =
-      tested_part_in e (λ from. is_assignable p.classes from t) (Wanted.StatementEnd s.answer inside) (write_local at) w (and_r (has (is_same_type t) (slice_get s.locals at)) (fits_part p t (type_of p s e)) passes) fits (λ a v u below fits_u on of_type.
-      declared inside at t v u (and_l (has (is_same_type t) (slice_get s.locals at)) (fits_part p t (type_of p s e)) passes) fits_u (assigned u.now v a t of_type below))
+      tested_part_in e (λ from. is_assignable p.classes from t) (Wanted.StatementEnd s.answer inside) (write_local at) w (second_so (has (is_same_type t) (slice_get s.locals at)) (fits_part p t (type_of p s e)) passes) fits (λ a v u below fits_u on of_type.
+      declared inside at t v u (first_so (has (is_same_type t) (slice_get s.locals at)) (fits_part p t (type_of p s e)) passes) fits_u (assigned u.now v a t of_type below))
 
   -- ---- assignments
 
@@ -156,7 +143,7 @@ module _ (p : Program) (typed : IsWellTyped p) (part : Parts) (safe : AreSafe p 
 
   both_some : (test other : Ty → Bool) (x y : PartType) {Q : Type 0} → IsTrue (has test x && has other y) → ((a b : Ty) → x ≡ Some a → y ≡ Some b → Q) → Q
   both_some test other x y {Q = Q} passes next =
-      found_passes test x {Q = Q} (and_l (has test x) (has other y) passes) (λ a is_a test_a. found_passes other y {Q = Q} (and_r (has test x) (has other y) passes) (λ b is_b test_b. next a b is_a is_b))
+      found_passes test x {Q = Q} (first_so (has test x) (has other y) passes) (λ a is_a test_a. found_passes other y {Q = Q} (second_so (has test x) (has other y) passes) (λ b is_b test_b. next a b is_a is_b))
 
   either_some : (x y : PartType) {Q : Type 0} → IsTrue (ints x y || booleans x y) → ((a b : Ty) → x ≡ Some a → y ≡ Some b → Q) → Q
   either_some x y {Q = Q} passes next = ⊎_elim (λ both. both_some is_int is_int x y {Q = Q} both next) (λ both. both_some is_boolean is_boolean x y {Q = Q} both next) (or_cases (ints x y) (booleans x y) passes)
@@ -166,17 +153,10 @@ module _ (p : Program) (typed : IsWellTyped p) (part : Parts) (safe : AreSafe p 
   update_parts update.BitOr x y {Q = Q} passes next = either_some x y {Q = Q} passes next
   update_parts update.BitXor x y {Q = Q} passes next = either_some x y {Q = Q} passes next
   update_parts update.Concat x y {Q = Q} passes next = both_some is_string (λ b. has_text (Some b)) x y {Q = Q} passes next
-  update_parts update.Add x y {Q = Q} passes next = both_some is_int is_int x y {Q = Q} passes next
-  update_parts update.Sub x y {Q = Q} passes next = both_some is_int is_int x y {Q = Q} passes next
-  update_parts update.Mul x y {Q = Q} passes next = both_some is_int is_int x y {Q = Q} passes next
-  update_parts update.Div x y {Q = Q} passes next = both_some is_int is_int x y {Q = Q} passes next
-  update_parts update.Rem x y {Q = Q} passes next = both_some is_int is_int x y {Q = Q} passes next
-  update_parts update.Shl x y {Q = Q} passes next = both_some is_int is_int x y {Q = Q} passes next
-  update_parts update.Shr x y {Q = Q} passes next = both_some is_int is_int x y {Q = Q} passes next
-  update_parts update.Ushr x y {Q = Q} passes next = both_some is_int is_int x y {Q = Q} passes next
+  update_parts _ x y {Q = Q} passes next = both_some is_int is_int x y {Q = Q} passes next
 
   operand_ends : (e : Option Expr) (b : Ty) (w : World) → operand_type p s e ≡ Some b → FitsScope p s w → EndsAs p (Wanted.ValueOf b) w (operand p part e w)
-  operand_ends None b w is fits = gives_ends p (Wanted.ValueOf b) w (outcome.Value (value.Int (pos 1))) fits.world (subst (FitsType p w.now (value.Int (pos 1))) (same_Some ty.Int b is) is_int_int)
+  operand_ends None b w is fits = gives_ends p (Wanted.ValueOf b) w (outcome.Value (value.Int (pos 1))) fits.world (subst (FitsType p w.now (value.Int (pos 1))) (same_Some ty.Int b is) is_int-Int)
   operand_ends (Some e) b w is fits = safe.expr s e b w is fits
 
   update_place_in : (inside : Bool) (op : UpOp) (e : Option Expr) (place : Place) (a b : Ty) (w : World) → IsTrue (is_update op (Some a) (Some b)) → operand_type p s e ≡ Some b → FitsScope p s w → FitsPlace p typed s w.now place a → Ends inside w (update_place p part op e place w)
@@ -209,8 +189,9 @@ module _ (p : Program) (typed : IsWellTyped p) (part : Parts) (safe : AreSafe p 
           (trapped inside x fits_x class.NullPointerException refl) (trapped inside x fits_x class.ArrayIndexOutOfBoundsException refl)
           (λ k at cell. next (location.Cell k at) x fits_x cell))))
 
-  update_in : (inside : Bool) (to : Target) (op : UpOp) (e : Option Expr) (w : World) → IsTrue (is_update op (target_type p s to) (operand_type p s e)) → FitsScope p s w → Ends inside w (stmt_node p part (Stmt-F.Update to op e) w)
-  update_in inside to op e w passes fits =
+  update_in : (inside : Bool) (to : Target) (op : UpOp) (e : Option Expr) (w : World) → IsTrue (is_update op (target_type p s to) (operand_type p s e) && (is_some e || is_counting op)) → FitsScope p s w → Ends inside w (stmt_node p part (Stmt-F.Update to op e) w)
+  update_in inside to op e w typed_update fits =
+      let passes = first_so (is_update op (target_type p s to) (operand_type p s e)) (is_some e || is_counting op) typed_update in
       update_parts op (target_type p s to) (operand_type p s e) {Q = Ends inside w (stmt_node p part (Stmt-F.Update to op e) w)} passes (λ a b is_a is_b.
       with_target_in inside to a (update_place p part op e) w is_a fits (λ place u fits_u is_place.
       update_place_in inside op e place a b u (subst (λ x. IsTrue (is_update op x (Some b))) is_a (subst (λ y. IsTrue (is_update op (target_type p s to) y)) is_b passes)) is_b fits_u is_place))
@@ -218,11 +199,10 @@ module _ (p : Program) (typed : IsWellTyped p) (part : Parts) (safe : AreSafe p 
   -- ---- expressions and prints
 
   eval_in : (inside : Bool) (e : Expr) (w : World) → IsTrue (is_some (type_of p s e)) → FitsScope p s w → Ends inside w (stmt_node p part (Stmt-F.Eval e) w)
-  eval_in inside e w some fits = cases (type_of p s e) refl some
-    where
-      cases : (found : PartType) → type_of p s e ≡ found → IsTrue (is_some found) → Ends inside w (stmt_node p part (Stmt-F.Eval e) w)
-      cases None is some = absurd (false≢true some)
-      cases (Some a) is some = of_part_in e a (Wanted.StatementEnd s.answer inside) (λ v. gives outcome.Normal) w is fits (λ v u fits_u on of_type. gives_in p s (Wanted.StatementEnd s.answer inside) u outcome.Normal fits_u tt)
+  eval_in inside e w some fits =
+      let found = some_of (type_of p s e) some in
+      of_part_in e found.0 (Wanted.StatementEnd s.answer inside) (λ v. gives outcome.Normal) w found.1 fits (λ v u fits_u on of_type.
+      gives_in p s (Wanted.StatementEnd s.answer inside) u outcome.Normal fits_u tt)
 
   prints_in : (inside : Bool) (bytes : List ℕ) (w : World) → FitsScope p s w → Ends inside w (prints bytes w)
   prints_in inside bytes w fits = record { world = fits; grown = grown_refl w.now; outcome = tt }
@@ -230,7 +210,7 @@ module _ (p : Program) (typed : IsWellTyped p) (part : Parts) (safe : AreSafe p 
   print_in : (inside line : Bool) (e : Option Expr) (w : World) → IsTrue (if_there p s has_text e && (line || is_some e)) → FitsScope p s w → Ends inside w (stmt_node p part (Stmt-F.Print line e) w)
   print_in inside line None w passes fits = prints_in inside (printed line []) w fits
   print_in inside line (Some e) w passes fits =
-      tested_part_in e (λ t. has_text (Some t)) (Wanted.StatementEnd s.answer inside) (print_value line) w (and_l (has_text (type_of p s e)) (line || true) passes) fits (λ a v u printable fits_u on of_type.
+      tested_part_in e (λ t. has_text (Some t)) (Wanted.StatementEnd s.answer inside) (print_value line) w (first_so (has_text (type_of p s e)) (line || true) passes) fits (λ a v u printable fits_u on of_type.
       let text = has_a_text p u.now v a printable of_type in
       subst (λ t. Ends inside u (option_map_or (λ t. prints (printed line t)) t (gives outcome.Stuck) u)) (sym text.1) (prints_in inside (printed line text.0) u fits_u))
 
@@ -251,14 +231,10 @@ module _ (p : Program) (typed : IsWellTyped p) (part : Parts) (safe : AreSafe p 
       cases : (o : Outcome) (u : World) (out : List ℕ) (kept : List KeptCall) → FitsScope p s u → HasGrown w.now u.now → Meets p (Wanted.StatementEnd s.answer true) u.now o → Ends inside w (after_body p part loop (record { outcome = o; world = u; out = out; kept = kept }))
       cases (outcome.Value v) u out kept fits grown meets = absurd meets
       cases outcome.Normal u out kept fits grown meets = on u out kept go grown outcome.Normal (goes_on u fits)
-      cases (outcome.Return None) u out kept fits grown meets = record { world = fits; grown = grown; outcome = meets }
-      cases (outcome.Return (Some v)) u out kept fits grown meets = record { world = fits; grown = grown; outcome = meets }
       cases outcome.Break u out kept fits grown meets = on u out kept (gives outcome.Normal) grown outcome.Break (gives_in p s (Wanted.StatementEnd s.answer inside) u outcome.Normal fits tt)
       cases outcome.Continue u out kept fits grown meets = on u out kept go grown outcome.Continue (goes_on u fits)
-      cases (outcome.Throw o) u out kept fits grown meets = record { world = fits; grown = grown; outcome = meets }
-      cases outcome.Spent u out kept fits grown meets = record { world = fits; grown = grown; outcome = meets }
-      cases (outcome.Full what) u out kept fits grown meets = record { world = fits; grown = grown; outcome = meets }
       cases outcome.Stuck u out kept fits grown meets = absurd meets
+      cases _ u out kept fits grown meets = record { world = fits; grown = grown; outcome = meets }
 
   pub body_of_in : (inside : Bool) (loop : Loop) (w : World) → IsTypedLoop p s inside loop → FitsScope p s w → Ends inside w (body_of p part loop w)
   body_of_in inside loop w is fits = after_body_in inside loop w (part.stmt loop.body w) is (safe.stmt s loop.body true w is.body fits)
@@ -289,17 +265,17 @@ module _ (p : Program) (typed : IsWellTyped p) (part : Parts) (safe : AreSafe p 
       let c = (out-Catch k).class in
       let local = has (is_same_type (ty.Class c)) (slice_get s.locals (out-Catch k).slot) in
       let body = is_typed_stmt p s (out-Catch k).body inside in
-      let rest = and_r (is_throwable p c) (local && body) passes in
+      let rest = second_so (is_throwable p c) (local && body) passes in
       normal_then_in p s (Wanted.StatementEnd s.answer inside) (part.stmt (out-Catch k).body) w (write_local (out-Catch k).slot (value.Ref o) w)
-      (declared inside (out-Catch k).slot (ty.Class c) (value.Ref o) w (and_l local body rest) fits (of_kind p w.now o (ty.Class c) (kind.Instance d) is_kind (to_class p.classes d c below))) (λ u fits_u grown.
-      safe.stmt s (out-Catch k).body inside u (and_r local body rest) fits_u)
+      (declared inside (out-Catch k).slot (ty.Class c) (value.Ref o) w (first_so local body rest) fits (of_kind p w.now o (ty.Class c) (kind.Instance d) is_kind (to_class p.classes d c below))) (λ u fits_u grown.
+      safe.stmt s (out-Catch k).body inside u (second_so local body rest) fits_u)
 
   handler_in : (inside : Bool) (o d : ℕ) (ks : List Catch) (w : World) → IsTrue (all_of (map typed_catch ks) inside) → FitsScope p s w → kind_at w.now o ≡ Some (kind.Instance d) → IsThrown p w.now o → Ends inside w (handled p part o (handler p ks d) w)
   handler_in inside o d [] w passes fits is_kind thrown = gives_in p s (Wanted.StatementEnd s.answer inside) w (outcome.Throw o) fits thrown
-  handler_in inside o d (k ∷ ks) w passes fits is_kind thrown = cases (handler_in inside o d ks w (and_r (typed_catch k inside) (all_of (map typed_catch ks) inside) passes) fits is_kind thrown) (is_subclass p.classes d (out-Catch k).class) refl
+  handler_in inside o d (k ∷ ks) w passes fits is_kind thrown = cases (handler_in inside o d ks w (second_so (typed_catch k inside) (all_of (map typed_catch ks) inside) passes) fits is_kind thrown) (is_subclass p.classes d (out-Catch k).class) refl
     where
       cases : Ends inside w (handled p part o (handler p ks d) w) → (below : Bool) → is_subclass p.classes d (out-Catch k).class ≡ below → Ends inside w (handled p part o (if below then Some k else handler p ks d) w)
-      cases others true below = handled_in inside o d k w (subst (λ f. IsTrue (f inside)) (catch_opens k) (and_l (typed_catch k inside) (all_of (map typed_catch ks) inside) passes)) fits is_kind below
+      cases others true below = handled_in inside o d k w (subst (λ f. IsTrue (f inside)) (catch_opens k) (first_so (typed_catch k inside) (all_of (map typed_catch ks) inside) passes)) fits is_kind below
       cases others false below = others
 
   catch_object_in : (inside : Bool) (ks : List Catch) (o : ℕ) (w : World) → IsTrue (all_of (map typed_catch ks) inside) → FitsScope p s w → IsThrown p w.now o → Ends inside w (catch_object p part ks o w)
@@ -315,16 +291,11 @@ module _ (p : Program) (typed : IsWellTyped p) (part : Parts) (safe : AreSafe p 
     where
       cases : (o : Outcome) (u : World) (out : List ℕ) (kept : List KeptCall) → FitsScope p s u → HasGrown w.now u.now → Meets p (Wanted.StatementEnd s.answer inside) u.now o → Ends inside w (catching p part ks (record { outcome = o; world = u; out = out; kept = kept }))
       cases (outcome.Value v) u out kept fits grown meets = absurd meets
-      cases outcome.Normal u out kept fits grown meets = record { world = fits; grown = grown; outcome = meets }
-      cases (outcome.Return v) u out kept fits grown meets = record { world = fits; grown = grown; outcome = meets }
-      cases outcome.Break u out kept fits grown meets = record { world = fits; grown = grown; outcome = meets }
-      cases outcome.Continue u out kept fits grown meets = record { world = fits; grown = grown; outcome = meets }
       cases (outcome.Throw o) u out kept fits grown meets =
           let caught = catch_object_in inside ks o u passes fits meets in
           record { world = caught.world; grown = grown_trans w.now u.now (catch_object p part ks o u).world.now grown caught.grown; outcome = caught.outcome }
-      cases outcome.Spent u out kept fits grown meets = record { world = fits; grown = grown; outcome = meets }
-      cases (outcome.Full what) u out kept fits grown meets = record { world = fits; grown = grown; outcome = meets }
       cases outcome.Stuck u out kept fits grown meets = absurd meets
+      cases _ u out kept fits grown meets = record { world = fits; grown = grown; outcome = meets }
 
   -- ---- `finally`
 
@@ -334,13 +305,8 @@ module _ (p : Program) (typed : IsWellTyped p) (part : Parts) (safe : AreSafe p 
       cases : (other : Outcome) (u : World) (out : List ℕ) (kept : List KeptCall) → FitsScope p s u → HasGrown w.now u.now → Meets p (Wanted.StatementEnd s.answer inside) u.now other → Ends inside w (keeping o (record { outcome = other; world = u; out = out; kept = kept }))
       cases (outcome.Value v) u out kept fits grown met = absurd met
       cases outcome.Normal u out kept fits grown met = record { world = fits; grown = grown; outcome = meets_grown p s.answer inside w.now u.now o grown meets }
-      cases (outcome.Return v) u out kept fits grown met = record { world = fits; grown = grown; outcome = met }
-      cases outcome.Break u out kept fits grown met = record { world = fits; grown = grown; outcome = met }
-      cases outcome.Continue u out kept fits grown met = record { world = fits; grown = grown; outcome = met }
-      cases (outcome.Throw k) u out kept fits grown met = record { world = fits; grown = grown; outcome = met }
-      cases outcome.Spent u out kept fits grown met = record { world = fits; grown = grown; outcome = met }
-      cases (outcome.Full what) u out kept fits grown met = record { world = fits; grown = grown; outcome = met }
       cases outcome.Stuck u out kept fits grown met = absurd met
+      cases _ u out kept fits grown met = record { world = fits; grown = grown; outcome = met }
 
   finally_in : (inside : Bool) (run : Run) (w : World) (a : Answer) → ((u : World) → FitsScope p s u → Ends inside u (run u)) → Ends inside w a → Ends inside w (finally run a)
   finally_in inside run w a last ends = cases a.outcome a.world a.out a.kept ends.world ends.grown ends.outcome
@@ -351,7 +317,6 @@ module _ (p : Program) (typed : IsWellTyped p) (part : Parts) (safe : AreSafe p 
           record { world = ends.world; grown = grown_trans w.now u.now (keeping o (run u)).world.now grown ends.grown; outcome = ends.outcome }
 
       cases : (o : Outcome) (u : World) (out : List ℕ) (kept : List KeptCall) → FitsScope p s u → HasGrown w.now u.now → Meets p (Wanted.StatementEnd s.answer inside) u.now o → Ends inside w (finally run (record { outcome = o; world = u; out = out; kept = kept }))
-      cases (outcome.Value v) u out kept fits grown meets = absurd meets
       cases outcome.Normal u out kept fits grown meets = executed outcome.Normal u out kept fits grown meets
       cases (outcome.Return v) u out kept fits grown meets = executed (outcome.Return v) u out kept fits grown meets
       cases outcome.Break u out kept fits grown meets = executed outcome.Break u out kept fits grown meets
@@ -359,7 +324,7 @@ module _ (p : Program) (typed : IsWellTyped p) (part : Parts) (safe : AreSafe p 
       cases (outcome.Throw o) u out kept fits grown meets = executed (outcome.Throw o) u out kept fits grown meets
       cases outcome.Spent u out kept fits grown meets = record { world = fits; grown = grown; outcome = meets }
       cases (outcome.Full what) u out kept fits grown meets = record { world = fits; grown = grown; outcome = meets }
-      cases outcome.Stuck u out kept fits grown meets = absurd meets
+      cases _ u out kept fits grown meets = absurd meets
 
   finally_if_in : (inside : Bool) (last : Option Stmt) (w : World) (a : Answer) → IsTrue (option_map_or (λ x. is_typed_stmt p s x inside) last true) → Ends inside w a → Ends inside w (finally_if p part last a)
   finally_if_in inside None w a passes ends = ends
@@ -412,34 +377,34 @@ module _ (p : Program) (typed : IsWellTyped p) (part : Parts) (safe : AreSafe p 
   node_in (Stmt-F.Print line e) inside w is fits = print_in inside line e w is fits
   node_in (Stmt-F.If e x None) inside w is fits =
       let rest = is_typed_stmt p s x inside && true in
-      if_in inside e x None w (and_l (is_condition p s e) rest is) (and_l (is_typed_stmt p s x inside) true (and_r (is_condition p s e) rest is)) refl fits
+      if_in inside e x None w (first_so (is_condition p s e) rest is) (first_so (is_typed_stmt p s x inside) true (second_so (is_condition p s e) rest is)) refl fits
   node_in (Stmt-F.If e x (Some y)) inside w is fits =
       let rest = is_typed_stmt p s x inside && is_typed_stmt p s y inside in
-      if_in inside e x (Some y) w (and_l (is_condition p s e) rest is) (and_l (is_typed_stmt p s x inside) (is_typed_stmt p s y inside) (and_r (is_condition p s e) rest is)) (and_r (is_typed_stmt p s x inside) (is_typed_stmt p s y inside) (and_r (is_condition p s e) rest is)) fits
+      if_in inside e x (Some y) w (first_so (is_condition p s e) rest is) (first_so (is_typed_stmt p s x inside) (is_typed_stmt p s y inside) (second_so (is_condition p s e) rest is)) (second_so (is_typed_stmt p s x inside) (is_typed_stmt p s y inside) (second_so (is_condition p s e) rest is)) fits
   node_in (Stmt-F.While e x) inside w is fits =
-      turn_in inside (record { test = Some e; updates = []; body = x }) w (record { test = and_l (is_condition p s e) (is_typed_stmt p s x true) is; updates = refl; body = and_r (is_condition p s e) (is_typed_stmt p s x true) is }) fits
+      turn_in inside (record { test = Some e; updates = []; body = x }) w (record { test = first_so (is_condition p s e) (is_typed_stmt p s x true) is; updates = refl; body = second_so (is_condition p s e) (is_typed_stmt p s x true) is }) fits
   node_in (Stmt-F.DoWhile x e) inside w is fits =
-      body_of_in inside (record { test = Some e; updates = []; body = x }) w (record { test = and_r (is_typed_stmt p s x true) (is_condition p s e) is; updates = refl; body = and_l (is_typed_stmt p s x true) (is_condition p s e) is }) fits
+      body_of_in inside (record { test = Some e; updates = []; body = x }) w (record { test = second_so (is_typed_stmt p s x true) (is_condition p s e) is; updates = refl; body = first_so (is_typed_stmt p s x true) (is_condition p s e) is }) fits
   node_in (Stmt-F.For first test updates x) inside w is fits =
       let before = all_of (map (is_typed_stmt p s) first) inside in
       let condition = option_map_or (is_condition p s) test true in
       let after_each = all_of (map (is_typed_stmt p s) updates) inside in
       let body = is_typed_stmt p s x true in
-      let rest = and_r before (condition && (after_each && body)) is in
-      for_in inside first test updates x w (and_l before (condition && (after_each && body)) is) (and_l condition (after_each && body) rest) (and_l after_each body (and_r condition (after_each && body) rest)) (and_r after_each body (and_r condition (after_each && body) rest)) fits
+      let rest = second_so before (condition && (after_each && body)) is in
+      for_in inside first test updates x w (first_so before (condition && (after_each && body)) is) (first_so condition (after_each && body) rest) (first_so after_each body (second_so condition (after_each && body) rest)) (second_so after_each body (second_so condition (after_each && body) rest)) fits
   node_in (Stmt-F.Return e) inside w is fits = return_in inside e w is fits
   node_in Stmt-F.Break inside w is fits = gives_in p s (Wanted.StatementEnd s.answer inside) w outcome.Break fits is
   node_in Stmt-F.Continue inside w is fits = gives_in p s (Wanted.StatementEnd s.answer inside) w outcome.Continue fits is
   node_in (Stmt-F.Throw e) inside w is fits = throw_in inside e w is fits
   node_in (Stmt-F.Try body ks None) inside w is fits =
       let catches = all_of (map typed_catch ks) inside in
-      let rest = and_r (is_typed_stmt p s body inside) (catches && true) is in
-      try_in inside body ks None w (and_l (is_typed_stmt p s body inside) (catches && true) is) (and_l catches true rest) refl fits
+      let rest = second_so (is_typed_stmt p s body inside) (catches && true) is in
+      try_in inside body ks None w (first_so (is_typed_stmt p s body inside) (catches && true) is) (first_so catches true rest) refl fits
   node_in (Stmt-F.Try body ks (Some x)) inside w is fits =
       let catches = all_of (map typed_catch ks) inside in
       let last = is_typed_stmt p s x inside in
-      let rest = and_r (is_typed_stmt p s body inside) (catches && last) is in
-      try_in inside body ks (Some x) w (and_l (is_typed_stmt p s body inside) (catches && last) is) (and_l catches last rest) (and_r catches last rest) fits
+      let rest = second_so (is_typed_stmt p s body inside) (catches && last) is in
+      try_in inside body ks (Some x) w (first_so (is_typed_stmt p s body inside) (catches && last) is) (first_so catches last rest) (second_so catches last rest) fits
 
   pub stmt_in : (x : Stmt) (inside : Bool) (w : World) → IsTrue (is_typed_stmt p s x inside) → FitsScope p s w → Ends inside w (stmt_node p part (out-Stmt x) w)
   unfolding is_typed_stmt

@@ -11,11 +11,11 @@ use Rattle.heap_arena.specs.declared.cell.Cell.TheVariants as value
 use Rattle.heap_arena.specs.declared.kind.Kind.{Kind}
 use Rattle.heap_arena.specs.declared.kind.Kind.TheVariants as kind
 use Rattle.heap_arena.specs.declared.object.Object.{Object}
-use Rattle.heap_arena.specs.Heap.{Heap, Value}
+use Rattle.heap_arena.specs.Heap.{Heap, Value, field_types_of}
 use Rattle.heap_arena.specs.Marks.{Shape, shape_of}
 use Rattle.evaluation.specs.World.{World}
 use Rattle.evaluation.specs.Values.{most_units}
-use Rattle.evaluation.specs.Objects.{field_types, object_fits}
+use Rattle.evaluation.specs.Objects.{object_fits}
 use Rattle.evaluation.specs.Calls.{most_live}
 
 -- ---- values
@@ -45,7 +45,7 @@ FitEach p h values types = (at : ℕ) (t : Ty) → slice_get types at ≡ Some t
 
 -- the types of the fields of a class
 abbrev pub types_of_fields : Program → ℕ → List Ty
-types_of_fields p c = option_map_or (λ types. types) (slice_get (field_types p) c) []
+types_of_fields p c = option_map_or (λ types. types) (slice_get (field_types_of p) c) []
 
 -- an instance has a value for each field of its class, and an array has elements of its type
 abbrev pub FitsKind : Program → Heap → List Value → Kind → Type 0

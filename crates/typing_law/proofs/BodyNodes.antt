@@ -11,7 +11,7 @@ use Rattle.core_tree.specs.declared.stmt.Stmt.{Stmt as Step}
 use Rattle.core_tree.specs.declared.stmt.Stmt.TheVariants as step
 use Rattle.core_tree.specs.declared.program.Program.{Program}
 use Rattle.core_tree.specs.Types.{is_int, is_boolean, is_void, is_same_type}
-use Rattle.core_tree.specs.Typing.{Scope as CoreScope, PartType, fits, has_text, ints, booleans, type_of, target_type, is_update, if_there, is_condition, is_typed_stmt}
+use Rattle.core_tree.specs.Typing.{Scope as CoreScope, PartType, fits, has_text, ints, booleans, type_of, target_type, is_update, is_counting, if_there, is_condition, is_typed_stmt}
 use Rattle.core_tree.specs.WellTyped.{declared_numbers}
 use Rattle.core_tree.proofs.TypeNodes.{is_same_type-Void}
 use Rattle.core_tree.proofs.StmtNodes.{is_typed_stmt-Empty, is_typed_stmt-Assign, is_typed_stmt-Update, is_typed_stmt-Eval, is_typed_stmt-Print, is_typed_stmt-Return, is_typed_stmt-Break, is_typed_stmt-Continue, is_typed_stmt-Throw, declared_numbers-Empty, declared_numbers-Assign, declared_numbers-Update, declared_numbers-Eval, declared_numbers-Print, declared_numbers-Return, declared_numbers-Break, declared_numbers-Continue, declared_numbers-Throw}
@@ -24,9 +24,10 @@ use Rattle.java_syntax.specs.declared.expression.Expr.{Expr}
 use Rattle.java_syntax.specs.declared.statement.Stmt.TheOpen.{Stmt-F}
 use Rattle.java_names.specs.declared.scope.Scope.{Scope}
 use Rattle.java_exprs.specs.declared.environment.Environment.{Environment}
-use Rattle.java_exprs.specs.declared.typed.Denotation.{Denotation}
-use Rattle.java_exprs.specs.declared.typed.Denotation.TheVariants as denotes
-use Rattle.java_exprs.specs.Attr.{Attr, value_type, only_if, of_rule, named_10, bare_19, is_no_value, value_faults}
+use Rattle.java_denotes.specs.declared.denotation.Denotation.{Denotation}
+use Rattle.java_denotes.specs.declared.denotation.Denotation.TheVariants as denotes
+use Rattle.java_exprs.specs.Attr.{Attr, only_if, of_rule, named_10, bare_19, is_no_value, value_faults}
+use Rattle.java_denotes.specs.Members.{value_type}
 use Rattle.java_exprs.specs.Rules.{wants, wants_type, both_11, bitwise_11}
 use Rattle.java_exprs.specs.Checks.{attr}
 use Rattle.java_statements.specs.Effects.{StmtNode}
@@ -34,7 +35,7 @@ use Rattle.java_statements.specs.Statements.{target_of, sum_op, assigned, counte
 use Rattle.typing_law.specs.Means.{Means, prints}
 use Rattle.typing_law.specs.Agrees.{Agrees}
 use Rattle.typing_law.specs.Scopes.{IsKnown, FitsBody}
-use Rattle.typing_law.proofs.TypeFacts as facts
+use Rattle.core_tree.proofs.TypeFacts as facts
 use Rattle.typing_law.proofs.NoFaults.{empty_parts, empty_rule, unless_empty, no_place}
 use Rattle.typing_law.proofs.Standing.{has_boolean}
 use Rattle.typing_law.proofs.Parts.{Holds, IsValue, value_part, right_part, wanted}
@@ -97,7 +98,8 @@ module _ (env : Environment) (p : Program) (agrees : Agrees env p) where
 
     module _ (a e : Expr) (v : IsValue p cs (attr env s a)) (w : IsValue p cs (attr env s e)) (target_is : target_type p cs (target_of (attr env s a)) ≡ Some v.type) (inside : Bool) where
       update : (op : UpOp) → IsTrue (is_update op (Some v.type) (type_of p cs (attr env s e).core)) → IsTrue (is_typed_stmt p cs (step.Update (target_of (attr env s a)) op (Some (attr env s e).core)) inside)
-      update op is = ap (λ f. f inside) (is_typed_stmt-Update p cs (target_of (attr env s a)) op (Some (attr env s e).core)) ∙ ap (λ x. is_update op x (type_of p cs (attr env s e).core)) target_is ∙ is
+      update op is = ap (λ f. f inside) (is_typed_stmt-Update p cs (target_of (attr env s a)) op (Some (attr env s e).core)) ∙ ap (λ x. is_update op x (type_of p cs (attr env s e).core) && true) target_is
+          ∙ and_from (is_update op (Some v.type) (type_of p cs (attr env s e).core)) true is refl
 
       int_update : (op : UpOp) → ((x y : PartType) → is_update op x y ≡ ints x y) → both_11 is_int (attr env s a) (attr env s e) ≡ [] → IsTrue (is_typed_stmt p cs (step.Update (target_of (attr env s a)) op (Some (attr env s e).core)) inside)
       int_update op table none = update op (ints_update env p agrees s cs (attr env s a) (attr env s e) v w op table none)
@@ -131,14 +133,16 @@ module _ (env : Environment) (p : Program) (agrees : Agrees env p) where
         v : IsValue p cs (attr env s a)
         v = value a none
 
-        one : (op : UpOp) → ((x y : PartType) → is_update op x y ≡ ints x y) → IsTrue (is_typed_stmt p cs (step.Update (target_of (attr env s a)) op None) inside)
-        one op table =
-            ap (λ f. f inside) (is_typed_stmt-Update p cs (target_of (attr env s a)) op None) ∙ ap (λ x. is_update op x (Some ty.Int)) (target a v none none_18 none_20) ∙ table (Some v.type) (Some ty.Int)
-            ∙ and_from (is_int v.type) (is_int ty.Int) (wanted p cs is_int (attr env s a) v none_11) facts.is_int-Int
+        one : (op : UpOp) → ((x y : PartType) → is_update op x y ≡ ints x y) → IsTrue (is_counting op) → IsTrue (is_typed_stmt p cs (step.Update (target_of (attr env s a)) op None) inside)
+        one op table counts =
+            ap (λ f. f inside) (is_typed_stmt-Update p cs (target_of (attr env s a)) op None)
+            ∙ ap (λ x. is_update op x (Some ty.Int) && is_counting op) (target a v none none_18 none_20)
+            ∙ and_from (is_update op (Some v.type) (Some ty.Int)) (is_counting op)
+            (table (Some v.type) (Some ty.Int) ∙ and_from (is_int v.type) (is_int ty.Int) (wanted p cs is_int (attr env s a) v none_11) facts.is_int-Int) counts
 
         cases : (op : StepOp) → IsTrue (is_typed_stmt p cs (counted op (attr env s a)) inside)
-        cases count.Increment = one up.Add (λ x y. refl)
-        cases count.Decrement = one up.Sub (λ x y. refl)
+        cases count.Increment = one up.Add (λ x y. refl) refl
+        cases count.Decrement = one up.Sub (λ x y. refl) refl
 
     -- ---- expressions as statements
 
@@ -146,14 +150,12 @@ module _ (env : Environment) (p : Program) (agrees : Agrees env p) where
     evaluated_typed e None at inside means none = absurd means
     evaluated_typed e (Some (denotes.Value t)) at inside means none = ap (λ f. f inside) (is_typed_stmt-Eval p cs e) ∙ ap is_some means.typed
     evaluated_typed e (Some denotes.Nothing) at inside means none = ap (λ f. f inside) (is_typed_stmt-Eval p cs e) ∙ ap is_some means
-    evaluated_typed e (Some (denotes.Class c)) at inside means none = no_place at [] none
-    evaluated_typed e (Some denotes.System) at inside means none = no_place at [] none
-    evaluated_typed e (Some denotes.Output) at inside means none = no_place at [] none
     evaluated_typed e (Some (denotes.Print print)) at inside means none = ap (λ f. f inside) (is_typed_stmt-Print p cs print.ends_line (if print.has_argument then Some e else None)) ∙ printed print.has_argument print.ends_line means
       where
         printed : (has_argument ends_line : Bool) → IsTrue (prints has_argument (type_of p cs e) ends_line) → IsTrue (if_there p cs has_text (if has_argument then Some e else None) && (ends_line || is_some (if has_argument then Some e else None)))
         printed true ends_line means = and_from (has_text (type_of p cs e)) (ends_line || true) means (or_right ends_line true refl)
         printed false ends_line means = or_left ends_line false means
+    evaluated_typed e _ at inside means none = no_place at [] none
 
     return_typed : (at : ℕ) (e : Option Expr) (inside : Bool) → optional_faults env s e ≡ [] → return_11 env at e s ≡ [] → IsTrue (is_typed_stmt p cs (step.Return (optional_core env s e)) inside)
     return_typed at None inside none none_11 =
@@ -193,13 +195,8 @@ module _ (env : Environment) (p : Program) (agrees : Agrees env p) where
   counted_numbers count.Decrement a = declared_numbers-Update (target_of a) up.Sub None
 
   evaluated_numbers : (e : Core) (d : Option Denotation) → declared_numbers (evaluated e d) ≡ []
-  evaluated_numbers e None = declared_numbers-Eval e
-  evaluated_numbers e (Some (denotes.Value t)) = declared_numbers-Eval e
-  evaluated_numbers e (Some denotes.Nothing) = declared_numbers-Eval e
-  evaluated_numbers e (Some (denotes.Class c)) = declared_numbers-Eval e
-  evaluated_numbers e (Some denotes.System) = declared_numbers-Eval e
-  evaluated_numbers e (Some denotes.Output) = declared_numbers-Eval e
   evaluated_numbers e (Some (denotes.Print print)) = declared_numbers-Print print.ends_line (if print.has_argument then Some e else None)
+  evaluated_numbers e _ = declared_numbers-Eval e
 
   pub empty_right : NodeHolds Stmt-F.Empty
   empty_right s known none = leaf s step.Empty known declared_numbers-Empty (λ cs fits. ap (λ f. f s.in_loop) (is_typed_stmt-Empty p cs))

@@ -34,7 +34,7 @@ use Rattle.std.specs.Prelude.{nat_lt}
 use Rattle.core_tree.specs.declared.stmt.Stmt.TheFolds.{fold-roll-Catch}
 use Rattle.core_tree.specs.Typing.{InLoop, all_of, stmt_node, catch_node, is_throwable}
 use Rattle.core_tree.specs.WellTyped.{declared_in, all_declared, declared_node, declared_catch}
-use Rattle.java_syntax.specs.declared.name.Ident.{Ident}
+use Rattle.token_reading.specs.declared.name.Ident.{Ident}
 use Rattle.java_exprs.specs.Lookups.{class_named}
 use Rattle.java_names.specs.Types.{is_string as is_string_name}
 use Rattle.java_names.specs.Lookups.{is_below}

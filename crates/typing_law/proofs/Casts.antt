@@ -7,12 +7,12 @@ use Rattle.core_tree.specs.declared.ty.Ty.TheVariants as ty
 use Rattle.core_tree.specs.declared.ty.Ty.TheViews as type
 use Rattle.core_tree.specs.declared.program.Class.{Class}
 use Rattle.core_tree.specs.declared.program.Program.{Program}
-use Rattle.core_tree.specs.Types.{class_of, elements_of, is_string, is_null, is_object, is_subclass, is_assignable, is_value_type}
+use Rattle.core_tree.specs.Types.{class_of, elements_of, is_null, is_object, is_subclass, is_assignable, is_value_type}
 use Rattle.core_tree.specs.Typing.{is_castable}
 use Rattle.core_tree.specs.WellTyped.{is_value}
 use Rattle.core_tree.proofs.TypeNodes.{is_assignable-Int, is_assignable-Bool, is_assignable-Text, is_assignable-Class, is_assignable-Array, is_assignable-Void}
 use Rattle.typing_law.specs.Means.{StandsFor}
-use Rattle.typing_law.proofs.TypeFacts as facts
+use Rattle.core_tree.proofs.TypeFacts as facts
 use Rattle.typing_law.proofs.Standing.{stands_exact}
 
 module _ (classes : List Class) where
@@ -55,10 +55,6 @@ module _ (classes : List Class) where
       (λ is either. absurd (no_object ty.Int facts.is_object-Int is)) (λ is either. absurd (no_object ty.Bool facts.is_object-Bool is)) (λ is either. absurd (no_object ty.Text facts.is_object-Text is))
       (λ c is either. from_class c from either) (λ a is either. from_array a from either)
       (λ is either. absurd (no_object ty.Null facts.is_object-Null is)) (λ is either. absurd (no_object ty.Void facts.is_object-Void is)) to
-
-pub object_no_string : (t : Ty) → IsTrue (is_object t) → is_string t ≡ false
-object_no_string = facts.ty_cases (λ t. IsTrue (is_object t) → is_string t ≡ false)
-    (λ is. facts.is_string-Int) (λ is. facts.is_string-Bool) (λ is. absurd (false≢true (sym facts.is_object-Text ∙ is))) (λ c is. facts.is_string-Class c) (λ e is. facts.is_string-Array e) (λ is. facts.is_string-Null) (λ is. facts.is_string-Void)
 
 -- a value can be cast
 pub castable : (p : Program) (to from actual : Ty) → IsTrue (is_object to) → IsTrue (is_value p to) → IsTrue (is_assignable p.classes from to || is_assignable p.classes to from) → StandsFor actual from → (actual ≡ from) × IsTrue (is_castable p to from)

@@ -1,5 +1,5 @@
 -- The fields of a table's rows: what is known of each, and where they stand.
-use Rattle.std.proofs.Common.{◌≡◌, ◌∙◌, ℕ, zero, suc, ◌+◌, ◌<◌, Bool, true, false, not, IsTrue, List, [], ◌∷◌, ◌++◌, length, map, Option, Some, None, option_map, is_some, slice_get, refl, subst, sym, ap, arith, if◌then◌else◌}
+use Rattle.std.proofs.Common.{◌≡◌, ◌∙◌, ℕ, zero, suc, ◌+◌, ◌<◌, Bool, true, false, List, [], ◌∷◌, ◌++◌, length, map, Some, None, option_map, slice_get, refl, subst, sym, ap, arith, if◌then◌else◌}
 use Rattle.std.specs.Prelude.{filter}
 use Rattle.std.specs.List.{flat_map, range_with_len}
 use Rattle.std.proofs.lemmas.Option.{none-some, same_Some, slice_get-map, slice_get_within}
@@ -7,6 +7,7 @@ use Rattle.class_table.specs.declared.row.FieldRow.{FieldRow}
 use Rattle.class_table.specs.Fields.{numbered}
 use Rattle.class_table.specs.Members.{is_instance}
 use Rattle.class_table.specs.TableFacts.{places}
+use Rattle.typing_law.proofs.Found.{range_at}
 
 -- ---- lists
 
@@ -46,14 +47,6 @@ in_filter test (y ∷ xs) (suc j) x is holds = cases (in_filter test xs j x is h
     cases : (k : ℕ) × (slice_get (filter test xs) k ≡ Some x) → (b : Bool) → test y ≡ b → (k : ℕ) × (slice_get (if b then y ∷ filter test xs else filter test xs) k ≡ Some x)
     cases there true first = (suc there.0, there.1)
     cases there false first = there
-
-pub range_at : (a n k : ℕ) → k < n → slice_get (range_with_len a n) k ≡ Some (a + k)
-range_at a zero k below = absurd (none_below k below)
-  where
-    none_below : (k : ℕ) → k < 0 → ⊥
-    none_below k below = omega arith
-range_at a (suc n) zero below = let e : a ≡ a + 0 = omega arith in ap Some e
-range_at a (suc n) (suc k) below = let e : a + 1 + k ≡ a + suc k = omega arith in range_at (a + 1) n k (omega arith) ∙ ap Some e
 
 -- ---- fields with their places
 

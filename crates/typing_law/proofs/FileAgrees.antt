@@ -1,5 +1,5 @@
 -- What is looked up in a file that breaks no rule is so in its program.
-use Rattle.std.proofs.Common.{◌≡◌, ◌∙◌, ℕ, ◌≤◌, List, [], length, Some, slice_get, subst, sym}
+use Rattle.std.proofs.Common.{◌≡◌, ℕ, ◌≤◌, [], length, Some, slice_get, subst, sym}
 use Rattle.java_syntax.specs.declared.class.FileTree.{FileTree}
 use Rattle.class_table.specs.declared.row.ClassRow.{ClassRow}
 use Rattle.class_table.specs.Declarations.{declared_of}
@@ -10,7 +10,7 @@ use Rattle.class_table.specs.Table.{table_of}
 use Rattle.class_table.specs.TableFacts.{IsTable}
 use Rattle.java_names.specs.declared.symbol.FieldSymbol.{FieldSymbol}
 use Rattle.java_exprs.specs.Lookups.{member_of}
-use Rattle.java_types.specs.Files.{declared_faults, env_of, program_in, reading_of}
+use Rattle.java_members.specs.Files.{declared_faults, env_of, program_in, reading_of}
 use Rattle.typing_law.specs.Agrees.{Agrees, AgreesOnField}
 use Rattle.token_law.specs.Tokens.{HasOwnTokens}
 use Rattle.typing_law.proofs.Tables.{line_short, length_rows}
@@ -18,7 +18,7 @@ use Rattle.typing_law.proofs.FileLookups.{calls_agree}
 use Rattle.typing_law.proofs.FileMembers.{field_found, field_placed, field_value}
 use Rattle.typing_law.proofs.FileConstants.{constant_agrees}
 
--- a line of a class of a file is no longer than there are classes
+-- a line of a class of a file isn't longer than there are classes
 pub short_lines : (tree : FileTree) (c : ℕ) (row : ClassRow) → slice_get (table_of tree).classes c ≡ Some row → length row.line ≤ length (table_of tree).classes
 short_lines tree c row is = let declared = declared_of tree.classes in subst (λ n. length row.line ≤ n) (sym (length_rows declared 0 declared)) (line_short declared c row is)
 

@@ -1,5 +1,5 @@
 -- A call on an object is typed by the method that is looked up.
-use Rattle.std.proofs.Common.{◌≡◌, ◌∙◌, ℕ, zero, suc, ◌+◌, ◌<◌, ◌≤◌, Bool, true, false, not, ◌&&◌, ◌==◌, IsTrue, List, [], ◌∷◌, length, Option, Some, None, option_map, is_some, slice_get, refl, subst, sym, ap, arith, if◌then◌else◌}
+use Rattle.std.proofs.Common.{◌≡◌, ◌∙◌, ℕ, ◌+◌, ◌<◌, ◌≤◌, Bool, true, false, not, ◌&&◌, ◌==◌, IsTrue, List, [], ◌∷◌, length, Option, Some, None, option_map, is_some, slice_get, refl, subst, sym, ap, arith, if◌then◌else◌}
 use Rattle.std.specs.Prelude.{option_and_then, position, unwrap_or}
 use Rattle.std.specs.List.{list_any, range_with_len}
 use Rattle.std.specs.Option.{option_map_or}
@@ -27,34 +27,19 @@ use Rattle.java_names.specs.Lookups.{line_of, is_below, nearest, method_in, meth
 use Rattle.java_names.specs.Numbers.{first_numbers}
 use Rattle.java_names.specs.Selectors.{same_selector, selector_of, message_selector}
 use Rattle.java_names.specs.Symbols.{class_symbol, method_symbol, method_symbols, selectors_in}
-use Rattle.java_exprs.specs.declared.literal.Literal.{Literal}
+use Rattle.primitive_operators.specs.declared.scalar.Scalar.{Scalar}
 use Rattle.java_exprs.specs.Lookups.{method_of}
-use Rattle.java_types.specs.Declarations.{declaration_faults}
-use Rattle.java_types.specs.Files.{of_members, core_class}
+use Rattle.java_members.specs.Declarations.{declaration_faults}
+use Rattle.java_members.specs.Files.{of_members, core_class}
 use Rattle.java_names.proofs.NumberingLemmas.{is_some-position}
 use Rattle.typing_law.proofs.Nodes.{where_holds}
 use Rattle.typing_law.proofs.Tables.{numbers_at, env_with, program_with, class_symbol_at, class_core_at, same_below}
 use Rattle.typing_law.proofs.FileMakers.{shifted}
 use Rattle.typing_law.proofs.FileMethods.{method_symbol_at, IsGetMessage, IsOfFile, all_names, all_selectors, first_method, symbols}
 use Rattle.typing_law.proofs.FileSelectors.{same_parts, picks_none, picks_first, nearest_same, has_selector, first_selector}
+use Rattle.typing_law.proofs.Found.{some_within, range_at}
 
 -- ---- lists
-
-range_at : (a n k : ℕ) → k < n → slice_get (range_with_len a n) k ≡ Some (a + k)
-range_at a zero k below = absurd (none_below k below)
-  where
-    none_below : (k : ℕ) → k < 0 → ⊥
-    none_below k below = omega arith
-range_at a (suc n) zero below = let e : a ≡ a + 0 = omega arith in ap Some e
-range_at a (suc n) (suc k) below = let e : a + 1 + k ≡ a + suc k = omega arith in range_at (a + 1) n k (omega arith) ∙ ap Some e
-
-some_within : {X : Type 0} (xs : List X) (k : ℕ) → k < length xs → (x : X) × (slice_get xs k ≡ Some x)
-some_within [] k below = absurd (none_below k below)
-  where
-    none_below : (k : ℕ) → k < 0 → ⊥
-    none_below k below = omega arith
-some_within (x ∷ xs) zero below = (x, refl)
-some_within (x ∷ xs) (suc k) below = some_within xs k (omega arith)
 
 -- a look-up that finds nothing among the methods of a class
 no_position : (names : List (List ℕ)) (all : List Selector) (owner : ℕ) (number : Option ℕ) (ms : List MethodRow) (key : Selector) → option_and_then (λ n. slice_get (method_symbols names all owner number ms) n) (position (same_selector key) (selectors_in ms)) ≡ None →
@@ -69,7 +54,7 @@ no_position names all owner number ms key is = cases (position (same_selector ke
         let r = some_within ms n (omega arith) in
         absurd (none-some (method_symbol names all owner (shifted number n) r.0) (sym is ∙ method_symbol_at names all owner number ms n ∙ ap (option_map (method_symbol names all owner (shifted number n))) r.1))
 
-module _ (tree : FileTree) (constants : List (ℕ × Option Literal)) (none : of_members (declaration_faults (env_with (table_of tree) tree [])) 18 tree.classes ≡ [])
+module _ (tree : FileTree) (constants : List (ℕ × Option Scalar)) (none : of_members (declaration_faults (env_with (table_of tree) tree [])) 18 tree.classes ≡ [])
     (is_table : IsTable (table_of tree)) (short : (c : ℕ) (row : ClassRow) → slice_get (table_of tree).classes c ≡ Some row → length row.line ≤ length (table_of tree).classes) where
   abbrev table : ClassTable
   table = table_of tree
@@ -127,9 +112,6 @@ module _ (tree : FileTree) (constants : List (ℕ × Option Literal)) (none : of
       ∙ ap (option_and_then (λ m. m)) (slice_get-map (chosen_method (symbols tree constants none) c) (range_with_len 0 (length (all_selectors tree constants none))) k ∙ ap (option_map (chosen_method (symbols tree constants none) c)) (range_at 0 (length (all_selectors tree constants none)) k below ∙ ap Some start))
       ∙ chosen
 
-  throwable_below : (c : ℕ) → is_throwable (program_with table tree constants) c ≡ is_below (symbols tree constants none) c 1
-  throwable_below c = sym (same_below table tree constants is_table short c 1)
-
   if_message : (message : Bool) (p_fit : Bool) (m_answer : PartType) (r : PartType) → (message ≡ true → where_true p_fit ty.Text ≡ r) → (message ≡ false → m_answer ≡ r) → (if message then where_true p_fit ty.Text else m_answer) ≡ r
   if_message true p_fit m_answer r meant other = meant refl
   if_message false p_fit m_answer r meant other = other refl
@@ -166,6 +148,9 @@ module _ (tree : FileTree) (constants : List (ℕ × Option Literal)) (none : of
       ∙ ap (call_type p (λ m. m.on_object) arguments) chosen
       ∙ where_holds (method.on_object && all_fit p method.params arguments) method.answer (and_from method.on_object (all_fit p method.params arguments) on_object (ap (λ ts. all_fit p ts arguments) params ∙ fit))
       ∙ ap Some answer)
+
+  pub throwable_below : (c : ℕ) → is_throwable (program_with table tree constants) c ≡ is_below (symbols tree constants none) c 1
+  throwable_below c = sym (same_below table tree constants is_table short c 1)
 
   -- a call of `getMessage` of Throwable
   pub get_message_agrees : (c arity : ℕ) (m : MethodSymbol) → IsGetMessage tree constants none c arity m →

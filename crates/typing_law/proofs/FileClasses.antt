@@ -5,14 +5,14 @@ use Rattle.std.proofs.lemmas.Option.{none-some, same_Some}
 use Rattle.std.proofs.lemmas.Bool.{and_from, or_left, or_right}
 use Rattle.core_tree.specs.declared.ty.Ty.TheVariants as ty
 use Rattle.core_tree.specs.Types.{is_void}
-use Rattle.java_syntax.specs.declared.name.TypeTree.{TypeTree}
-use Rattle.typing_law.proofs.TypeFacts as facts
+use Rattle.token_reading.specs.declared.name.TypeTree.{TypeTree}
+use Rattle.core_tree.proofs.TypeFacts as facts
 use Rattle.core_tree.specs.declared.program.Program.{Program}
 use Rattle.core_tree.specs.WellTyped.{is_value}
 use Rattle.java_syntax.specs.declared.class.Member.{Member}
 use Rattle.java_syntax.specs.declared.class.Member.TheVariants as member
 use Rattle.java_syntax.specs.declared.class.ClassTree.{ClassTree}
-use Rattle.java_syntax.specs.declared.class.ParamTree.{ParamTree}
+use Rattle.token_reading.specs.declared.name.ParamTree.{ParamTree}
 use Rattle.class_table.specs.declared.row.ClassRow.{ClassRow}
 use Rattle.class_table.specs.declared.row.MakerRow.{MakerRow}
 use Rattle.class_table.specs.declared.row.MethodRow.{MethodRow}
@@ -27,16 +27,15 @@ use Rattle.java_exprs.specs.declared.environment.Environment.{Environment}
 use Rattle.java_exprs.specs.Attr.{of_rule}
 use Rattle.java_exprs.specs.Lookups.{class_named, unknown_type}
 use Rattle.java_statements.specs.Statements.{again_10, exception_10}
-use Rattle.java_types.specs.Declarations.{with_param, params_10, answer_10, method_scope, maker_scope, declared_10, declared_11, declared_20, declaration_faults}
-use Rattle.java_types.specs.Files.{of_members}
+use Rattle.java_members.specs.Declarations.{with_param, params_10, answer_10, declared_10, declared_11, declared_20, declaration_faults}
+use Rattle.java_names.specs.Scope.{method_scope, maker_scope}
+use Rattle.java_members.specs.Files.{of_members}
 use Rattle.typing_law.proofs.NoFaults.{empty_parts, empty_rule}
 use Rattle.typing_law.proofs.Spelled.{declared_value}
 use Rattle.typing_law.proofs.Tables.{row_at}
+use Rattle.typing_law.proofs.Found.{numbers_one}
 
 -- ---- rows
-
-numbers_one : (n k : ℕ) → n + 1 + k ≡ n + suc k
-numbers_one n k = omega arith
 
 pub declaration_at : (known : List Name) (n : ℕ) (ks : List ClassTree) (j : ℕ) → slice_get (declarations known n ks) j ≡ option_map (declaration known (n + j)) (slice_get ks j)
 declaration_at known n [] j = refl
@@ -93,13 +92,11 @@ module _ (env : Environment) (p : Program) (classes : (x : Name) (c : ℕ) → c
 
   pub maker_values : (c : ℕ) (members : List Member) (i : ℕ) (y : MakerRow) → flat_map (declaration_faults env c) members ≡ [] → slice_get (makers_in members) i ≡ Some y → IsTrue (list_all (is_value p) (declared_types env.symbols.names y.params))
   maker_values c [] i y none is = absurd (none-some y is)
-  maker_values c (member.Field f ∷ more) i y none is = maker_values c more i y (empty_parts (declaration_faults env c (member.Field f)) (flat_map (declaration_faults env c) more) none).1 is
-  maker_values c (member.Method m ∷ more) i y none is = maker_values c more i y (empty_parts (declaration_faults env c (member.Method m)) (flat_map (declaration_faults env c) more) none).1 is
-  maker_values c (member.Empty ∷ more) i y none is = maker_values c more i y (empty_parts (declaration_faults env c member.Empty) (flat_map (declaration_faults env c) more) none).1 is
   maker_values c (member.Maker m ∷ more) zero y none is =
       let here = none_10 c (member.Maker m) (empty_parts (declaration_faults env c (member.Maker m)) (flat_map (declaration_faults env c) more) none).0 in
       subst (λ r. IsTrue (list_all (is_value p) (declared_types env.symbols.names r.params))) (same_Some (maker_row m) y is) (params_values m.params (maker_scope c) (empty_parts (params_10 env m.params (maker_scope c)) (flat_map (exception_10 env) m.throws) here).0)
   maker_values c (member.Maker m ∷ more) (suc i) y none is = maker_values c more i y (empty_parts (declaration_faults env c (member.Maker m)) (flat_map (declaration_faults env c) more) none).1 is
+  maker_values c (x ∷ more) i y none is = maker_values c more i y (empty_parts (declaration_faults env c x) (flat_map (declaration_faults env c) more) none).1 is
 
   answer_value : (t : Option TypeTree) → answer_10 env t ≡ [] → IsTrue (is_value p (answer_type env.symbols.names t) || is_void (answer_type env.symbols.names t))
   answer_value None none = or_right (is_value p ty.Void) (is_void ty.Void) facts.is_void-Void
@@ -111,12 +108,10 @@ module _ (env : Environment) (p : Program) (classes : (x : Name) (c : ℕ) → c
 
   pub method_values : (c : ℕ) (members : List Member) (i : ℕ) (y : MethodRow) → flat_map (declaration_faults env c) members ≡ [] → slice_get (methods_in members) i ≡ Some y → HasMethodValues y
   method_values c [] i y none is = absurd (none-some y is)
-  method_values c (member.Field f ∷ more) i y none is = method_values c more i y (empty_parts (declaration_faults env c (member.Field f)) (flat_map (declaration_faults env c) more) none).1 is
-  method_values c (member.Maker m ∷ more) i y none is = method_values c more i y (empty_parts (declaration_faults env c (member.Maker m)) (flat_map (declaration_faults env c) more) none).1 is
-  method_values c (member.Empty ∷ more) i y none is = method_values c more i y (empty_parts (declaration_faults env c member.Empty) (flat_map (declaration_faults env c) more) none).1 is
   method_values c (member.Method m ∷ more) zero y none is =
       let here = none_10 c (member.Method m) (empty_parts (declaration_faults env c (member.Method m)) (flat_map (declaration_faults env c) more) none).0 in
-      let parts = empty_parts (answer_10 env m.answer) (params_10 env m.params (method_scope env c m) ++ flat_map (exception_10 env) m.throws) here in
+      let parts = empty_parts (answer_10 env m.answer) (params_10 env m.params (method_scope env.symbols c m) ++ flat_map (exception_10 env) m.throws) here in
       subst HasMethodValues (same_Some (method_row m) y is)
-      (params_values m.params (method_scope env c m) (empty_parts (params_10 env m.params (method_scope env c m)) (flat_map (exception_10 env) m.throws) parts.1).0, answer_value m.answer parts.0)
+      (params_values m.params (method_scope env.symbols c m) (empty_parts (params_10 env m.params (method_scope env.symbols c m)) (flat_map (exception_10 env) m.throws) parts.1).0, answer_value m.answer parts.0)
   method_values c (member.Method m ∷ more) (suc i) y none is = method_values c more i y (empty_parts (declaration_faults env c (member.Method m)) (flat_map (declaration_faults env c) more) none).1 is
+  method_values c (x ∷ more) i y none is = method_values c more i y (empty_parts (declaration_faults env c x) (flat_map (declaration_faults env c) more) none).1 is

@@ -1,5 +1,5 @@
 -- The constants of a file that breaks no rule have values of their types.
-use Rattle.std.proofs.Common.{◌≡◌, ◌∙◌, ⊎_elim, ◌⊎◌, ℕ, zero, suc, ◌+◌, ◌≤◌, Bool, true, false, not, ◌||◌, ◌&&◌, ◌==◌, IsTrue, List, [], ◌∷◌, ◌++◌, length, map, Option, Some, None, option_map, slice_get, refl, subst, sym, ap, arith, if◌then◌else◌}
+use Rattle.std.proofs.Common.{◌≡◌, ◌∙◌, ⊎_elim, ℕ, zero, suc, ◌+◌, Bool, true, false, not, ◌||◌, ◌&&◌, ◌==◌, IsTrue, List, [], ◌∷◌, ◌++◌, Option, Some, None, option_map, slice_get, refl, subst, sym, ap, arith, if◌then◌else◌}
 use Rattle.std.specs.Prelude.{option_and_then, unwrap_or, find}
 use Rattle.std.specs.List.{flat_map}
 use Rattle.std.specs.Option.{option_map_or}
@@ -10,16 +10,15 @@ use Rattle.core_tree.specs.declared.ty.Ty.TheVariants as ty
 use Rattle.core_tree.specs.declared.program.Class.{Class as CoreClass}
 use Rattle.core_tree.specs.Typing.{is_int_number}
 use Rattle.core_tree.specs.Types.{is_int, is_boolean, is_string, is_void}
-use Rattle.java_syntax.specs.declared.fault.Fault.{Fault}
+use Rattle.token_reading.specs.declared.fault.Fault.{Fault}
 use Rattle.java_syntax.specs.declared.expression.Expr.{Expr}
 use Rattle.java_syntax.specs.declared.class.ClassTree.{ClassTree}
 use Rattle.java_syntax.specs.declared.class.FieldTree.{FieldTree}
 use Rattle.java_syntax.specs.declared.class.FileTree.{FileTree}
 use Rattle.java_syntax.specs.declared.class.Member.{Member}
 use Rattle.java_syntax.specs.declared.class.Member.TheVariants as member
-use Rattle.java_syntax.specs.declared.name.TypeTree.{TypeTree}
+use Rattle.token_reading.specs.declared.name.TypeTree.{TypeTree}
 use Rattle.class_table.specs.declared.row.ClassTable.{ClassTable}
-use Rattle.class_table.specs.declared.row.FieldRow.{FieldRow}
 use Rattle.class_table.specs.Declarations.{declaration, declared_of}
 use Rattle.class_table.specs.Faults.{Clear}
 use Rattle.class_table.specs.Fields.{fields_at}
@@ -31,23 +30,24 @@ use Rattle.class_table.specs.TableFacts.{IsTable}
 use Rattle.java_names.specs.declared.symbol.FieldSymbol.{FieldSymbol}
 use Rattle.java_names.specs.Types.{declared_type}
 use Rattle.java_exprs.specs.declared.environment.Environment.{Environment}
-use Rattle.java_exprs.specs.declared.literal.Literal.{Literal}
-use Rattle.java_exprs.specs.declared.literal.Literal.TheVariants as literal
+use Rattle.primitive_operators.specs.declared.scalar.Scalar.{Scalar}
+use Rattle.primitive_operators.specs.declared.scalar.Scalar.TheVariants as scalar
 use Rattle.java_exprs.specs.declared.folded.Folded.{Folded}
 use Rattle.java_exprs.specs.declared.folded.Folded.TheVariants as folded
-use Rattle.java_exprs.specs.declared.typed.Denotation.TheVariants as denotes
-use Rattle.java_exprs.specs.Attr.{Attr, value_type, unless, only_if, of_rule, value_faults, named_10, nothing_11, bare_19}
-use Rattle.java_exprs.specs.Types as rules
+use Rattle.java_exprs.specs.Attr.{Attr, unless, of_rule, value_faults, named_10, nothing_11, bare_19}
+use Rattle.java_denotes.specs.Members.{value_type}
+use Rattle.java_denotes.specs.Types as rules
 use Rattle.java_exprs.specs.Rules.{wants, wants_type}
 use Rattle.java_exprs.specs.Checks.{attr}
 use Rattle.java_exprs.specs.Constants.{read_folded, field_folded, folded_of, literal_of}
-use Rattle.java_exprs.specs.Lookups.{member_of, constant_at, type_named, unknown_type}
-use Rattle.java_types.specs.Constants.{Reading, initialiser_folded, is_initialiser, initialiser_20, constant_faults_of, constant_faults, where_sound, constant_value, read_constant, read_member, read_members, read_classes}
-use Rattle.java_types.specs.Declarations.{declared_10, declared_11, declared_20, declaration_faults, is_constant_type, constant_type_20, field_words_20, constant_scope}
-use Rattle.java_types.specs.Files.{of_members, env_of, reading_of}
+use Rattle.java_exprs.specs.Lookups.{member_of, constant_at, type_named}
+use Rattle.java_members.specs.Constants.{Reading, initialiser_folded, is_initialiser, initialiser_20, constant_faults_of, constant_faults, where_sound, constant_value, read_constant, read_member, read_members, read_classes}
+use Rattle.java_members.specs.Declarations.{declared_10, declared_11, declared_20, declaration_faults, is_constant_type, constant_type_20, field_words_20}
+use Rattle.java_names.specs.Scope.{constant_scope}
+use Rattle.java_members.specs.Files.{of_members, env_of, reading_of}
 use Rattle.typing_law.specs.Agrees.{is_literal_of}
 use Rattle.token_law.specs.Tokens.{HasOwnTokens}
-use Rattle.typing_law.proofs.TypeFacts as facts
+use Rattle.core_tree.proofs.TypeFacts as facts
 use Rattle.typing_law.proofs.NoFaults.{empty_parts, empty_rule, unless_empty, only_if_empty, no_place}
 use Rattle.typing_law.proofs.Scopes.{get_before}
 use Rattle.typing_law.proofs.Spelled.{known_type}
@@ -57,11 +57,12 @@ use Rattle.typing_law.proofs.FileLookups.{calls_agree}
 use Rattle.typing_law.proofs.FileMethods.{all_names}
 use Rattle.typing_law.proofs.FieldRows.{Each, each_append}
 use Rattle.typing_law.proofs.FileMembers.{Stands, FieldFound, field_found}
-use Rattle.typing_law.proofs.LiteralKinds.{Kind, AnInt, ABool, AText, ANull, kind_type, null_kind, widens, widens_test, Fits, value_widens}
+use Rattle.typing_law.proofs.LiteralKinds.{Kind, AnInt, ABool, AText, ANull, kind_type, null_kind, widens_test, Fits, value_widens}
 use Rattle.typing_law.proofs.FoldedNodes.{Matches, ReadFits, folded_sound}
+use Rattle.typing_law.proofs.Found.{find_there, not_false, numbers_shift}
 
 abbrev Entries : Type 0
-Entries = List (ℕ × Option Literal)
+Entries = List (ℕ × Option Scalar)
 
 -- ---- the first entry of a token
 
@@ -73,23 +74,14 @@ found_in test (y ∷ xs) x is = cases (found_in test xs x) (test y) refl is
     cases more true holds is = (zero, is, ap test (sym (same_Some y x is)) ∙ holds)
     cases more false fails is = let there = more is in (suc there.0, there.1, there.2)
 
-found_there : {X : Type 0} (test : X → Bool) (xs : List X) (k : ℕ) (x : X) → slice_get xs k ≡ Some x → test x ≡ true → (y : X) × (find test xs ≡ Some y)
-found_there test [] k x is holds = absurd (none-some x is)
-found_there test (y ∷ xs) zero x is holds = (y, ap (λ b. if b then Some y else find test xs) (ap test (same_Some y x is) ∙ holds))
-found_there test (y ∷ xs) (suc k) x is holds = cases (found_there test xs k x is holds) (test y)
-  where
-    cases : (z : _) × (find test xs ≡ Some z) → (b : Bool) → (z : _) × ((if b then Some y else find test xs) ≡ Some z)
-    cases there true = (y, refl)
-    cases there false = there
-
 -- ---- kinds of constants
 
-literal_fits : (v : Literal) (k : Kind) → Fits v k → null_kind k ≡ false → IsTrue (is_literal_of v (kind_type k))
-literal_fits (literal.Int n) AnInt fits is = ap (λ b. b && is_int_number n) facts.is_int-Int ∙ fits
-literal_fits (literal.Bool b) ABool fits is = facts.is_boolean-Bool
-literal_fits (literal.Text t) AText fits is = facts.is_string-Text
-literal_fits literal.Null AText fits is = facts.is_string-Text
-literal_fits literal.Null ANull fits is = absurd (false≢true (sym is))
+literal_fits : (v : Scalar) (k : Kind) → Fits v k → null_kind k ≡ false → IsTrue (is_literal_of v (kind_type k))
+literal_fits (scalar.Int n) AnInt fits is = ap (λ b. b && is_int_number n) facts.is_int-Int ∙ fits
+literal_fits (scalar.Bool b) ABool fits is = facts.is_boolean-Bool
+literal_fits (scalar.Text t) AText fits is = facts.is_string-Text
+literal_fits scalar.Null AText fits is = facts.is_string-Text
+literal_fits scalar.Null ANull fits is = absurd (false≢true (sym is))
 literal_fits _ _ fits is = absurd fits
 
 -- a type of constants
@@ -110,10 +102,6 @@ not_void ABool = facts.is_void-Bool
 not_void AText = facts.is_void-Text
 not_void ANull = facts.is_void-Null
 
-not_false : (b : Bool) → not b ≡ false → b ≡ true
-not_false true is = refl
-not_false false is = absurd (false≢true (sym is))
-
 -- the type of a constant that is declared without a fault
 declared_kind : (env : Environment) (c : ℕ) (f : FieldTree) → declaration_faults env c (member.Field f) ≡ [] → is_static f.mods ≡ true → IsKind (declared_type env.symbols.names f.ty)
 declared_kind env c f none static =
@@ -133,12 +121,10 @@ in_fields : (c : ℕ) (members : List Member) (n : ℕ) (f : FieldTree) → slic
 in_fields c [] n f is = absurd (none-some _ is)
 in_fields c (member.Field g ∷ more) zero f is = (zero, ap (λ m. slice_get (fields_in c (m ∷ more)) zero) (same_Some _ _ is))
 in_fields c (member.Field g ∷ more) (suc n) f is = let there = in_fields c more n f is in (suc there.0, there.1)
-in_fields c (member.Method m ∷ more) zero f is = cc
 in_fields c (member.Method m ∷ more) (suc n) f is = in_fields c more n f is
 in_fields c (member.Maker m ∷ more) (suc n) f is = in_fields c more n f is
 in_fields c (member.Empty ∷ more) (suc n) f is = in_fields c more n f is
-in_fields c (member.Maker m ∷ more) zero f is = cc
-in_fields c (member.Empty ∷ more) zero f is = cc
+in_fields c (_ ∷ more) zero f is = cc
 
 -- ---- what is read
 
@@ -153,8 +139,8 @@ module _ (tree : FileTree) (is_table : IsTable (table_of tree)) (clear : Clear (
   first = env_with table tree []
 
   -- an entry has a value of the type of a declaration by its token
-  record IsRead (at : ℕ) (o : Option Literal) : Type 0 where
-    value : Literal
+  record IsRead (at : ℕ) (o : Option Scalar) : Type 0 where
+    value : Scalar
     is : o ≡ Some value
     spelled : TypeTree
     stands : Stands tree [] none at spelled
@@ -165,13 +151,13 @@ module _ (tree : FileTree) (is_table : IsTable (table_of tree)) (clear : Clear (
   AllRead = Each (λ e. IsRead e.0 e.1)
 
   abbrev Has : Entries → ℕ → Type 0
-  Has cs at = (i : ℕ) × (e : ℕ × Option Literal) × (slice_get cs i ≡ Some e) × (e.0 ≡ at)
+  Has cs at = (i : ℕ) × (e : ℕ × Option Scalar) × (slice_get cs i ≡ Some e) × (e.0 ≡ at)
 
   -- what is read by the token of a field has the field's type
   same_type : (at : ℕ) (t u : TypeTree) → Stands tree [] none at t → Stands tree [] none at u → t ≡ u
   same_type at t u a b = sym a.5 ∙ own a.0 b.0 a.1 b.1 a.2 b.2 a.3 b.3 (a.4 ∙ sym b.4) ∙ b.5
 
-  read_type : (cs : Entries) (c : ℕ) (m : FieldSymbol) (found : FieldFound tree cs none c m) (o : Option Literal) → (read : IsRead m.at o) → m.ty ≡ kind_type read.kind.kind
+  read_type : (cs : Entries) (c : ℕ) (m : FieldSymbol) (found : FieldFound tree cs none c m) (o : Option Scalar) → (read : IsRead m.at o) → m.ty ≡ kind_type read.kind.kind
   read_type cs c m found o read =
       let row = found.row in
       let at : m.at ≡ row.at = ap (λ s. s.at) found.is_symbol in
@@ -182,10 +168,10 @@ module _ (tree : FileTree) (is_table : IsTable (table_of tree)) (clear : Clear (
   read_fits : (cs : Entries) → AllRead cs → (c : ℕ) (x : Name) (m : FieldSymbol) → member_of (env_with table tree cs) c x ≡ Some m → ReadFits m.ty (field_folded (env_with table tree cs) m)
   read_fits cs all c x m is = cases (find (λ e. e.0 == m.at) cs) refl
     where
-      of_value : (o : Option Literal) (v : Literal) (k : Kind) → o ≡ Some v → m.ty ≡ kind_type k → Fits v k → ReadFits m.ty (read_folded (Some o))
+      of_value : (o : Option Scalar) (v : Scalar) (k : Kind) → o ≡ Some v → m.ty ≡ kind_type k → Fits v k → ReadFits m.ty (read_folded (Some o))
       of_value o v k is_o type fits = subst (λ o. ReadFits m.ty (read_folded (Some o))) (sym is_o) (k, type, fits)
 
-      cases : (e : Option (ℕ × Option Literal)) → find (λ e. e.0 == m.at) cs ≡ e → ReadFits m.ty (read_folded (option_map (λ c. c.1) e))
+      cases : (e : Option (ℕ × Option Scalar)) → find (λ e. e.0 == m.at) cs ≡ e → ReadFits m.ty (read_folded (option_map (λ c. c.1) e))
       cases None is_found = tt
       cases (Some e) is_found =
           let there = found_in (λ e. e.0 == m.at) cs e is_found in
@@ -198,7 +184,7 @@ module _ (tree : FileTree) (is_table : IsTable (table_of tree)) (clear : Clear (
   faultless e = of_rule 10 (named_10 e) (of_rule 11 (nothing_11 e) (of_rule 19 (bare_19 e) []))
 
   initial_value : (cs : Entries) → AllRead cs → (c : ℕ) (f : FieldTree) (k : Kind) → declared_type (all_names tree [] none) f.ty ≡ kind_type k → constant_faults (env_with table tree cs) c f ≡ [] →
-      (v : Literal) × (constant_value (env_with table tree cs) c f ≡ Some v) × Fits v k
+      (v : Scalar) × (constant_value (env_with table tree cs) c f ≡ Some v) × Fits v k
   initial_value cs all c f k type clear_of =
       let env = env_with table tree cs in
       let parts = empty_parts (option_map_or (constant_faults_of env c f) f.value []) (of_rule 20 (initialiser_20 env c f) []) clear_of in
@@ -211,11 +197,8 @@ module _ (tree : FileTree) (is_table : IsTable (table_of tree)) (clear : Clear (
       classes = (program_with table tree cs).classes
 
       of_folded : (e : Expr) (g : Folded) → Matches (attr (env_with table tree cs) (constant_scope c) e).denotes g → is_initialiser g ≡ true → wants_type (env_with table tree cs) (declared_type (all_names tree [] none) f.ty) (attr (env_with table tree cs) (constant_scope c) e) ≡ [] →
-          (v : Literal) × (literal_of g ≡ Some v) × Fits v k
+          (v : Scalar) × (literal_of g ≡ Some v) × Fits v k
       of_folded e folded.Unknown matches is_one wants_none = absurd matches
-      of_folded e folded.Fails matches is_one wants_none = absurd (false≢true is_one)
-      of_folded e (folded.Class d) matches is_one wants_none = absurd (false≢true is_one)
-      of_folded e folded.Other matches is_one wants_none = absurd (false≢true is_one)
       of_folded e (folded.Gives v) matches is_one wants_none =
           let env = env_with table tree cs in
           let a = attr env (constant_scope c) e in
@@ -224,9 +207,10 @@ module _ (tree : FileTree) (is_table : IsTable (table_of tree)) (clear : Clear (
           let fits : rules.is_assignable env.symbols (kind_type matches.0) (kind_type k) ≡ true = unless_empty _ a.at (subst (λ d. option_map_or (λ t. unless (rules.is_assignable env.symbols t (kind_type k)) a.at) (value_type d) [] ≡ []) matches.1 of_value) in
           let calls = calls_agree tree cs is_table clear none in
           (v, refl, value_widens matches.0 k v (sym (widens_test env.symbols (program_with table tree cs).classes calls.below matches.0 k) ∙ fits) matches.2)
+      of_folded e _ matches is_one wants_none = absurd (false≢true is_one)
 
       of_expr : (o : Option Expr) → f.value ≡ o → is_initialiser (option_map_or (folded_of (env_with table tree cs) (constant_scope c)) o folded.Other) ≡ true → option_map_or (constant_faults_of (env_with table tree cs) c f) o [] ≡ [] →
-          (v : Literal) × (literal_of (option_map_or (folded_of (env_with table tree cs) (constant_scope c)) o folded.Other) ≡ Some v) × Fits v k
+          (v : Scalar) × (literal_of (option_map_or (folded_of (env_with table tree cs) (constant_scope c)) o folded.Other) ≡ Some v) × Fits v k
       of_expr None is is_one faults = absurd (false≢true is_one)
       of_expr (Some e) is is_one faults =
           let env = env_with table tree cs in
@@ -239,14 +223,12 @@ module _ (tree : FileTree) (is_table : IsTable (table_of tree)) (clear : Clear (
   -- ---- faults of a part are faults of the whole
 
   member_before : (c : ℕ) (m : Member) (before : Reading) → (read_member first c m before).faults ≡ [] → before.faults ≡ []
-  member_before c (member.Method m) before faults = faults
-  member_before c (member.Maker m) before faults = faults
-  member_before c member.Empty before faults = faults
   member_before c (member.Field f) before faults = cases (is_static f.mods) faults
     where
       cases : (b : Bool) → (if b then read_constant first c f before else before).faults ≡ [] → before.faults ≡ []
       cases true faults = (empty_parts before.faults (constant_faults (env_with table tree before.constants) c f) faults).0
       cases false faults = faults
+  member_before c _ before faults = faults
 
   members_before : (c : ℕ) (members : List Member) (before : Reading) → (read_members first c members before).faults ≡ [] → before.faults ≡ []
   unfolding read_members
@@ -288,10 +270,10 @@ module _ (tree : FileTree) (is_table : IsTable (table_of tree)) (clear : Clear (
   single m after reads zero f is static = reads f (same_Some m (member.Field f) is) static
   single m after reads (suc i) f is static = absurd (none-some _ is)
 
-  has_kept : (cs : Entries) (e : ℕ × Option Literal) (at : ℕ) → Has cs at → Has (cs ++ e ∷ []) at
+  has_kept : (cs : Entries) (e : ℕ × Option Scalar) (at : ℕ) → Has cs at → Has (cs ++ e ∷ []) at
   has_kept cs e at has = (has.0, has.1, get_before cs (e ∷ []) has.0 has.1 has.2, has.3)
 
-  has_last : (cs : Entries) (e : ℕ × Option Literal) → Has (cs ++ e ∷ []) e.0
+  has_last : (cs : Entries) (e : ℕ × Option Scalar) → Has (cs ++ e ∷ []) e.0
   has_last [] e = (zero, e, refl, refl)
   has_last (x ∷ cs) e = let there = has_last cs e in (suc there.0, there.1, there.2, there.3)
 
@@ -308,7 +290,7 @@ module _ (tree : FileTree) (is_table : IsTable (table_of tree)) (clear : Clear (
       of_static static faults =
           let kind = declared_kind first c f in_file.0 static in
           let value = initial_value before.constants all c f kind.kind kind.is (empty_parts before.faults (constant_faults (env_with table tree before.constants) c f) faults).1 in
-          let entry : ℕ × Option Literal = (f.name.at, constant_value (env_with table tree before.constants) c f) in
+          let entry : ℕ × Option Scalar = (f.name.at, constant_value (env_with table tree before.constants) c f) in
           let read : IsRead f.name.at (constant_value (env_with table tree before.constants) c f) = record { value = value.0; is = value.1; spelled = f.ty; stands = in_file.1 f refl; kind = kind; fits = value.2 } in
           record {
             all = each_append (λ e. IsRead e.0 e.1) before.constants (entry ∷ []) all (one entry read);
@@ -316,7 +298,7 @@ module _ (tree : FileTree) (is_table : IsTable (table_of tree)) (clear : Clear (
             reads = single (member.Field f) (read_constant first c f before) (λ g is static_g. subst (λ h. Has (before.constants ++ entry ∷ []) h.name.at) (same_field g is) (has_last before.constants entry));
           }
         where
-          one : (e : ℕ × Option Literal) → IsRead e.0 e.1 → Each (λ e. IsRead e.0 e.1) (e ∷ [])
+          one : (e : ℕ × Option Scalar) → IsRead e.0 e.1 → Each (λ e. IsRead e.0 e.1) (e ∷ [])
           one e read zero x is = subst (λ e. IsRead e.0 e.1) (same_Some e x is) read
           one e read (suc i) x is = absurd (none-some x is)
 
@@ -344,10 +326,7 @@ module _ (tree : FileTree) (is_table : IsTable (table_of tree)) (clear : Clear (
       let clear_here = (empty_parts (declaration_faults first c x) (flat_map (declaration_faults first c) more) faults).0 in
       (subst (λ y. declaration_faults first c y ≡ []) (same_Some x m is) clear_here, λ f is_f. field_stands j k is_class (n + 0) f (here 0 (member.Field f) (is ∙ ap Some is_f)))
   members_in_file c j k is_class n (x ∷ more) here faults (suc i) m is =
-      members_in_file c j k is_class (suc n) more (λ i m at. ap (slice_get k.members) (shift n i) ∙ here (suc i) m at) (empty_parts (declaration_faults first c x) (flat_map (declaration_faults first c) more) faults).1 i m is
-    where
-      shift : (n i : ℕ) → suc n + i ≡ n + suc i
-      shift n i = omega arith
+      members_in_file c j k is_class (suc n) more (λ i m at. ap (slice_get k.members) (numbers_shift n i) ∙ here (suc i) m at) (empty_parts (declaration_faults first c x) (flat_map (declaration_faults first c) more) faults).1 i m is
 
   record AreDone (ks : List ClassTree) (before after : Reading) : Type 0 where
     all : AllRead after.constants
@@ -363,14 +342,11 @@ module _ (tree : FileTree) (is_table : IsTable (table_of tree)) (clear : Clear (
       let parts = empty_parts (flat_map (declaration_faults first c) k.members) (of_members (declaration_faults first) (suc c) ks) declared in
       let in_file = members_in_file c (n + 0) k (here 0 k refl) 0 k.members (λ i m is. ap (slice_get k.members) (start i) ∙ is) parts.0 in
       let mine = members_done c k.members in_file before all (classes_before (suc c) ks after faults) in
-      let rest = classes_done (suc n) (suc c) ks (λ i k is. ap (slice_get tree.classes) (shift n i) ∙ here (suc i) k is) parts.1 after mine.all faults in
+      let rest = classes_done (suc n) (suc c) ks (λ i k is. ap (slice_get tree.classes) (numbers_shift n i) ∙ here (suc i) k is) parts.1 after mine.all faults in
       record { all = rest.all; kept = λ at has. rest.kept at (mine.kept at has); reads = joined (read_classes first (suc c) ks after) mine.reads rest }
     where
       start : (i : ℕ) → 0 + i ≡ i
       start i = omega arith
-
-      shift : (n i : ℕ) → suc n + i ≡ n + suc i
-      shift n i = omega arith
 
       joined : (last : Reading) → Reads k.members (read_members first c k.members before) → AreDone ks (read_members first c k.members before) last → (i : ℕ) (x : ClassTree) → slice_get (k ∷ ks) i ≡ Some x → Reads x.members last
       joined last mine rest zero x is j f is_f static = rest.kept f.name.at (mine j f (ap (λ y. slice_get y.members j) (same_Some k x is) ∙ is_f) static)
@@ -380,7 +356,7 @@ module _ (tree : FileTree) (is_table : IsTable (table_of tree)) (clear : Clear (
   nothing_read i e is = absurd (none-some _ is)
 
   -- every constant that is looked up has a value of its type
-  pub constant_agrees : (reading_of table tree).faults ≡ [] → (c : ℕ) (x : Name) (m : FieldSymbol) → member_of (env_of table tree) c x ≡ Some m → m.place ≡ None → (v : Literal) × (constant_at (env_of table tree) m.at ≡ Some v) × IsTrue (is_literal_of v m.ty)
+  pub constant_agrees : (reading_of table tree).faults ≡ [] → (c : ℕ) (x : Name) (m : FieldSymbol) → member_of (env_of table tree) c x ≡ Some m → m.place ≡ None → (v : Scalar) × (constant_at (env_of table tree) m.at ≡ Some v) × IsTrue (is_literal_of v m.ty)
   constant_agrees faults c x m is no_place =
       let cs = (reading_of table tree).constants in
       let start : (i : ℕ) → 0 + i ≡ i = λ i. omega arith in
@@ -390,7 +366,7 @@ module _ (tree : FileTree) (is_table : IsTable (table_of tree)) (clear : Clear (
       let constant = found.known.constant row_place in
       let at : constant.field.name.at ≡ m.at = constant.token ∙ sym (ap (λ s. s.at) found.is_symbol) in
       let has = done.reads constant.class constant.tree constant.is_class constant.number constant.field constant.is_field constant.static in
-      let first_one = found_there (λ e. e.0 == m.at) cs has.0 has.1 has.2 (eq-eqb has.1.0 m.at (has.3 ∙ at)) in
+      let first_one = find_there (λ e. e.0 == m.at) cs has.0 has.1 has.2 (eq-eqb has.1.0 m.at (has.3 ∙ at)) in
       let there = found_in (λ e. e.0 == m.at) cs first_one.0 first_one.1 in
       let read = subst (λ n. IsRead n first_one.0.1) (eqb-true first_one.0.0 m.at there.2) (done.all there.0 first_one.0 there.1) in
       let type = read_type cs c m found first_one.0.1 read in

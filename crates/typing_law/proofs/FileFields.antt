@@ -11,7 +11,7 @@ use Rattle.java_syntax.specs.declared.class.Member.TheVariants as member
 use Rattle.class_table.specs.declared.row.FieldRow.{FieldRow}
 use Rattle.class_table.specs.Fields.{numbered}
 use Rattle.class_table.specs.Members.{field_row, fields_in, is_instance, is_static}
-use Rattle.java_types.specs.Bodies.{core_field}
+use Rattle.java_members.specs.Bodies.{core_field}
 use Rattle.class_table.specs.Names.{Name}
 use Rattle.java_names.specs.Types.{declared_type}
 use Rattle.java_exprs.specs.declared.environment.Environment.{Environment}
@@ -21,11 +21,11 @@ use Rattle.class_table.specs.BuiltIn.{built_in}
 use Rattle.class_table.specs.Declarations.{declaration, declared_of}
 use Rattle.class_table.specs.Fields.{fields_at, instance_total, placed_at, fields_along}
 use Rattle.class_table.specs.Names.{class_names}
-use Rattle.java_types.specs.Files.{own_field, own_fields, all_own_fields}
+use Rattle.java_members.specs.Files.{own_field, own_fields, all_own_fields}
 use Rattle.typing_law.proofs.FileClasses.{declaration_at}
-
-numbers_shift : (n k : ℕ) → suc n + k ≡ n + suc k
-numbers_shift n k = omega arith
+use Rattle.typing_law.proofs.Found.{numbers_shift}
+use Rattle.std.proofs.lemmas.List.{map-append}
+use Rattle.std.proofs.lemmas.List.Elements.{filter-append}
 
 -- the own fields of the classes of a file
 pub own_at : (env : Environment) (n : ℕ) (ks : List ClassTree) (j : ℕ) → slice_get (own_fields env n ks) j ≡ option_map (λ k. flat_map (own_field env (n + j)) k.members) (slice_get ks j)
@@ -50,9 +50,7 @@ member_types env c (member.Field f ∷ more) = cases (is_static f.mods) (member_
         core_types ((if b then [] else core_field env c f ∷ []) ++ flat_map (own_field env c) more) ≡ map (λ f. declared_type env.symbols.names f.ty) (if not b then field_row c f ∷ filter is_instance (fields_in c more) else filter is_instance (fields_in c more))
     cases true same = same
     cases false same = ap (λ ts. declared_type env.symbols.names f.ty ∷ ts) same
-member_types env c (member.Method m ∷ more) = member_types env c more
-member_types env c (member.Maker m ∷ more) = member_types env c more
-member_types env c (member.Empty ∷ more) = member_types env c more
+member_types env c (_ ∷ more) = member_types env c more
 
 -- places change no type
 pub numbered_types : (names : List Name) (n : ℕ) (fields : List FieldRow) → row_types names (numbered n fields) ≡ row_types names fields
@@ -74,51 +72,22 @@ of_tree env known c (Some k) = member_types env c k.members
 -- the fields that each class declares itself
 class_types : (env : Environment) (tree : FileTree) (c : ℕ) → core_types (unwrap_or (slice_get (all_own_fields env tree) c) []) ≡ row_types env.symbols.names (fields_at (declared_of tree.classes) c)
 unfolding declared_of built_in
-class_types env tree zero = refl
-class_types env tree (suc zero) = refl
-class_types env tree (suc (suc zero)) = refl
-class_types env tree (suc (suc (suc zero))) = refl
-class_types env tree (suc (suc (suc (suc zero)))) = refl
-class_types env tree (suc (suc (suc (suc (suc zero))))) = refl
-class_types env tree (suc (suc (suc (suc (suc (suc zero)))))) = refl
-class_types env tree (suc (suc (suc (suc (suc (suc (suc zero))))))) = refl
-class_types env tree (suc (suc (suc (suc (suc (suc (suc (suc zero)))))))) = refl
-class_types env tree (suc (suc (suc (suc (suc (suc (suc (suc (suc zero))))))))) = refl
-class_types env tree (suc (suc (suc (suc (suc (suc (suc (suc (suc (suc zero)))))))))) = refl
-class_types env tree (suc (suc (suc (suc (suc (suc (suc (suc (suc (suc (suc zero))))))))))) = refl
-class_types env tree (suc (suc (suc (suc (suc (suc (suc (suc (suc (suc (suc (suc zero)))))))))))) = refl
-class_types env tree (suc (suc (suc (suc (suc (suc (suc (suc (suc (suc (suc (suc (suc zero))))))))))))) = refl
-class_types env tree (suc (suc (suc (suc (suc (suc (suc (suc (suc (suc (suc (suc (suc (suc zero)))))))))))))) = refl
-class_types env tree (suc (suc (suc (suc (suc (suc (suc (suc (suc (suc (suc (suc (suc (suc (suc zero))))))))))))))) = refl
-class_types env tree (suc (suc (suc (suc (suc (suc (suc (suc (suc (suc (suc (suc (suc (suc (suc (suc zero)))))))))))))))) = refl
-class_types env tree (suc (suc (suc (suc (suc (suc (suc (suc (suc (suc (suc (suc (suc (suc (suc (suc (suc zero))))))))))))))))) = refl
 class_types env tree (suc (suc (suc (suc (suc (suc (suc (suc (suc (suc (suc (suc (suc (suc (suc (suc (suc (suc j)))))))))))))))))) =
     ap (λ found. core_types (unwrap_or found [])) (own_at env 18 tree.classes j) ∙ of_tree env (class_names tree.classes) (18 + j) (slice_get tree.classes j)
     ∙ ap (λ found. row_types env.symbols.names (option_map_or (λ d. d.fields) found [])) (sym (declaration_at (class_names tree.classes) 18 tree.classes j))
+class_types env tree _ = refl
 
 -- ---- along a line
-
-map_append : {X Y : Type 0} (f : X → Y) (xs ys : List X) → map f (xs ++ ys) ≡ map f xs ++ map f ys
-map_append f [] ys = refl
-map_append f (x ∷ xs) ys = ap (λ zs. f x ∷ zs) (map_append f xs ys)
-
-pub filter_append : (test : FieldRow → Bool) (xs ys : List FieldRow) → filter test (xs ++ ys) ≡ filter test xs ++ filter test ys
-filter_append test [] ys = refl
-filter_append test (x ∷ xs) ys = cases (test x) (filter_append test xs ys)
-  where
-    cases : (b : Bool) → filter test (xs ++ ys) ≡ filter test xs ++ filter test ys → (if b then x ∷ filter test (xs ++ ys) else filter test (xs ++ ys)) ≡ (if b then x ∷ filter test xs else filter test xs) ++ filter test ys
-    cases true same = ap (λ zs. x ∷ zs) same
-    cases false same = same
 
 along : (env : Environment) (tree : FileTree) (line : List ℕ) → core_types (flat_map (λ d. unwrap_or (slice_get (all_own_fields env tree) d) []) line) ≡ row_types env.symbols.names (flat_map (placed_at (declared_of tree.classes)) line)
 along env tree [] = refl
 along env tree (c ∷ line) =
     let mine = placed_at (declared_of tree.classes) c in
     let more = flat_map (placed_at (declared_of tree.classes)) line in
-    map_append (λ f. f.ty) (unwrap_or (slice_get (all_own_fields env tree) c) []) (flat_map (λ d. unwrap_or (slice_get (all_own_fields env tree) d) []) line)
+    map-append (λ f. f.ty) (unwrap_or (slice_get (all_own_fields env tree) c) []) (flat_map (λ d. unwrap_or (slice_get (all_own_fields env tree) d) []) line)
     ∙ ap (λ ts. ts ++ core_types (flat_map (λ d. unwrap_or (slice_get (all_own_fields env tree) d) []) line)) (class_types env tree c ∙ sym (numbered_types env.symbols.names (instance_total (declared_of tree.classes) (superclasses (declared_of tree.classes) c)) (fields_at (declared_of tree.classes) c)))
     ∙ ap (λ ts. row_types env.symbols.names mine ++ ts) (along env tree line)
-    ∙ sym (ap (map (λ f. declared_type env.symbols.names f.ty)) (filter_append is_instance mine more) ∙ map_append (λ f. declared_type env.symbols.names f.ty) (filter is_instance mine) (filter is_instance more))
+    ∙ sym (ap (map (λ f. declared_type env.symbols.names f.ty)) (filter-append is_instance mine more) ∙ map-append (λ f. declared_type env.symbols.names f.ty) (filter is_instance mine) (filter is_instance more))
 
 -- the instance fields of classes along a line have the same types in the program and in the table
 pub line_types : (env : Environment) (tree : FileTree) (line : List ℕ) → core_types (flat_map (λ d. unwrap_or (slice_get (all_own_fields env tree) d) []) (reverse line)) ≡ row_types env.symbols.names (fields_along (declared_of tree.classes) line)

@@ -1,5 +1,5 @@
 -- Lines of a file's classes, and methods that are found in a superclass.
-use Rattle.std.proofs.Common.{◌≡◌, ◌∙◌, ⊎_elim, ℕ, zero, suc, ◌+◌, ◌<◌, ◌≤◌, Bool, true, false, not, ◌||◌, ◌&&◌, ◌==◌, IsTrue, List, [], ◌∷◌, length, Option, Some, None, option_map, slice_get, refl, subst, sym, ap, arith}
+use Rattle.std.proofs.Common.{◌≡◌, ◌∙◌, ⊎_elim, ℕ, zero, suc, ◌+◌, ◌≤◌, Bool, true, false, not, ◌||◌, ◌&&◌, ◌==◌, IsTrue, List, [], ◌∷◌, length, Option, Some, None, option_map, slice_get, refl, subst, sym, ap, arith}
 use Rattle.std.specs.List.{list_any}
 use Rattle.std.specs.Option.{option_map_or}
 use Rattle.std.proofs.lemmas.Option.{none-some, same_Some, option_and_then_some}
@@ -16,17 +16,19 @@ use Rattle.java_names.specs.declared.symbol.MethodSymbol.{MethodSymbol}
 use Rattle.java_names.specs.Lookups.{class_at, line_of, is_below}
 use Rattle.java_names.specs.Numbers.{first_numbers}
 use Rattle.java_names.specs.Symbols.{class_symbol}
-use Rattle.java_exprs.specs.declared.literal.Literal.{Literal}
+use Rattle.primitive_operators.specs.declared.scalar.Scalar.{Scalar}
 use Rattle.java_exprs.specs.Lookups.{superclass_of, method_of}
-use Rattle.java_types.specs.Declarations.{declaration_faults}
-use Rattle.java_types.specs.Files.{of_members}
+use Rattle.java_members.specs.Declarations.{declaration_faults}
+use Rattle.java_members.specs.Files.{of_members}
 use Rattle.typing_law.specs.Agrees.{AgreesOnSuper}
 use Rattle.typing_law.proofs.Nodes.{where_holds}
 use Rattle.typing_law.proofs.Tables.{numbers_at, env_with, program_with, class_symbol_at, same_below}
 use Rattle.typing_law.proofs.FileMakers.{shifted, found_by}
 use Rattle.typing_law.proofs.FileMethods.{IsGetMessage, IsOfFile, method_declared, all_names, all_selectors, first_method, symbols}
+use Rattle.typing_law.proofs.Found.{some_within}
+use Rattle.std.proofs.Math.Nat.{le_refl}
 
-module _ (tree : FileTree) (constants : List (ℕ × Option Literal)) (none : of_members (declaration_faults (env_with (table_of tree) tree [])) 18 tree.classes ≡ [])
+module _ (tree : FileTree) (constants : List (ℕ × Option Scalar)) (none : of_members (declaration_faults (env_with (table_of tree) tree [])) 18 tree.classes ≡ [])
     (is_table : IsTable (table_of tree)) (short : (c : ℕ) (row : ClassRow) → slice_get (table_of tree).classes c ≡ Some row → length row.line ≤ length (table_of tree).classes) where
   abbrev table : ClassTable
   table = table_of tree
@@ -64,9 +66,6 @@ module _ (tree : FileTree) (constants : List (ℕ × Option Literal)) (none : of
       line_cases c row d {Q = (there : ClassRow) × (slice_get table.classes d ≡ Some there) × (length there.line ≤ length row.line)} is on_line
       (λ same. (row, ap (slice_get table.classes) (sym same) ∙ is, le_refl (length row.line)))
       (λ q above is_q is_parent line on_above. let lengths = ap length line in let more = line_within n q above d (omega arith) is_q on_above in (more.0, more.1, omega (arith, more.2)))
-    where
-      le_refl : (k : ℕ) → k ≤ k
-      le_refl k = omega arith
 
   -- the line of a class in the symbols
   pub line_is : (c : ℕ) (row : ClassRow) → slice_get table.classes c ≡ Some row → line_of (symbols tree constants none) c ≡ row.line
@@ -94,23 +93,12 @@ module _ (tree : FileTree) (constants : List (ℕ × Option Literal)) (none : of
         is_above = above.1;
         line = facts.line ∙ ap (λ q. c ∷ line_above table.classes q) parent ∙ ap (λ found. c ∷ option_map_or (λ row. row.line) found []) above.1;
       })
-    where
-      some_within : (xs : List ClassRow) (k : ℕ) → k < length xs → (x : ClassRow) × (slice_get xs k ≡ Some x)
-      some_within [] k below = absurd (none_below k below)
-        where
-          none_below : (k : ℕ) → k < 0 → ⊥
-          none_below k below = omega arith
-      some_within (x ∷ xs) zero below = (x, refl)
-      some_within (x ∷ xs) (suc k) below = some_within xs k (omega arith)
 
   below_above : (c b d : ℕ) → HasSuper c b → IsTrue (is_below (symbols tree constants none) b d) → IsTrue (is_below (symbols tree constants none) c d) × ((d == c) ≡ false)
   below_above c b d has below =
       let on_above : on d has.above.line = subst (on d) (line_is b has.above has.is_above) below in
       (subst (on d) (sym (line_is c has.row has.is_row ∙ has.line)) (or_right (c == d) (list_any (λ a. a == d) has.above.line) on_above), other (d == c) refl on_above)
     where
-      le_refl : (k : ℕ) → k ≤ k
-      le_refl k = omega arith
-
       other : (b : Bool) → (d == c) ≡ b → on d has.above.line → (d == c) ≡ false
       other false is on_above = is
       other true is on_above =

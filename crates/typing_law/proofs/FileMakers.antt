@@ -13,14 +13,14 @@ use Rattle.class_table.specs.Names.{Name}
 use Rattle.class_table.specs.Members.{makers_in, maker_row}
 use Rattle.java_names.specs.declared.numbers.Numbers.{Numbers}
 use Rattle.java_names.specs.declared.symbol.MakerSymbol.{MakerSymbol}
-use Rattle.java_names.specs.BuiltIn.{is_built_in}
+use Rattle.core_tree.specs.BuiltIn.{is_built_in}
 use Rattle.java_names.specs.Numbers.{made_for, numbers_after}
 use Rattle.java_names.specs.Symbols.{maker_symbol, maker_symbols, maker_arities, following}
 use Rattle.java_names.specs.Types.{declared_type, declared_types}
 use Rattle.class_table.specs.declared.row.ClassRow.{ClassRow}
 use Rattle.java_exprs.specs.declared.environment.Environment.{Environment}
-use Rattle.java_types.specs.Bodies.{core_maker}
-use Rattle.java_types.specs.Files.{own_maker, of_members, of_made}
+use Rattle.java_members.specs.Bodies.{core_maker}
+use Rattle.java_members.specs.Files.{own_maker, of_members, of_made}
 use Rattle.std.proofs.lemmas.List.{length-map}
 use Rattle.core_tree.specs.WellTyped.{is_value}
 use Rattle.java_syntax.specs.declared.class.FileTree.{FileTree}
@@ -28,32 +28,33 @@ use Rattle.class_table.specs.declared.row.ClassTable.{ClassTable}
 use Rattle.class_table.specs.Table.{table_of}
 use Rattle.java_names.specs.Numbers.{first_numbers}
 use Rattle.java_names.specs.Symbols.{names_of}
-use Rattle.java_exprs.specs.declared.literal.Literal.{Literal}
-use Rattle.java_types.specs.Bodies.{made_maker}
-use Rattle.java_types.specs.Declarations.{declaration_faults}
+use Rattle.primitive_operators.specs.declared.scalar.Scalar.{Scalar}
+use Rattle.java_members.specs.Bodies.{made_maker}
+use Rattle.java_members.specs.Declarations.{declaration_faults}
 use Rattle.typing_law.specs.Agrees.{AgreesOnMaker}
 use Rattle.typing_law.proofs.Scopes.{get_before}
 use Rattle.typing_law.proofs.Tables.{numbers_at, env_with, program_with, class_within}
 use Rattle.typing_law.proofs.Numbered.{stands_at}
 use Rattle.typing_law.proofs.FileClasses.{tree_at, of_class, maker_values}
+use Rattle.typing_law.proofs.Found.{numbers_one}
 
 -- the number of the n-th of some members, the first of which has a number
 unfoldable pub shifted : Option ℕ → ℕ → Option ℕ
 shifted number n = option_map (λ k. k + n) number
 
+pub first_shifted : (number : Option ℕ) → number ≡ option_map (λ k. k + 0) number
+first_shifted None = refl
+first_shifted (Some k) = let e : k ≡ k + 0 = omega arith in ap Some e
+
+pub next_shifted : (n : ℕ) (number : Option ℕ) → option_map (λ k. k + n) (following number) ≡ option_map (λ k. k + suc n) number
+next_shifted n None = refl
+next_shifted n (Some k) = ap Some (numbers_one k n)
+
 pub maker_symbol_at : (names : List Name) (owner : ℕ) (number : Option ℕ) (rows : List MakerRow) (n : ℕ) → slice_get (maker_symbols names owner number rows) n ≡ option_map (maker_symbol names owner (shifted number n)) (slice_get rows n)
 unfolding shifted
 maker_symbol_at names owner number [] n = refl
-maker_symbol_at names owner number (m ∷ more) zero = ap (λ k. Some (maker_symbol names owner k m)) (here number)
-  where
-    here : (number : Option ℕ) → number ≡ option_map (λ k. k + 0) number
-    here None = refl
-    here (Some k) = let e : k ≡ k + 0 = omega arith in ap Some e
-maker_symbol_at names owner number (m ∷ more) (suc n) = maker_symbol_at names owner (following number) more n ∙ ap (λ k. option_map (maker_symbol names owner k) (slice_get more n)) (on number)
-  where
-    on : (number : Option ℕ) → option_map (λ k. k + n) (following number) ≡ option_map (λ k. k + suc n) number
-    on None = refl
-    on (Some k) = let e : k + 1 + n ≡ k + suc n = omega arith in ap Some e
+maker_symbol_at names owner number (m ∷ more) zero = ap (λ k. Some (maker_symbol names owner k m)) (first_shifted number)
+maker_symbol_at names owner number (m ∷ more) (suc n) = maker_symbol_at names owner (following number) more n ∙ ap (λ k. option_map (maker_symbol names owner k) (slice_get more n)) (next_shifted n number)
 
 -- ---- the constructors of the file by their numbers
 
@@ -62,18 +63,14 @@ IsMakerOf env c y x = (x.owner ≡ c) × (x.params ≡ declared_types env.symbol
 
 pub maker_lengths : (env : Environment) (c : ℕ) (members : List Member) → length (flat_map (own_maker env c) members) ≡ length (makers_in members)
 maker_lengths env c [] = refl
-maker_lengths env c (member.Field f ∷ more) = maker_lengths env c more
-maker_lengths env c (member.Method m ∷ more) = maker_lengths env c more
 maker_lengths env c (member.Maker m ∷ more) = ap suc (maker_lengths env c more)
-maker_lengths env c (member.Empty ∷ more) = maker_lengths env c more
+maker_lengths env c (_ ∷ more) = maker_lengths env c more
 
 pub maker_found : (env : Environment) (c : ℕ) (members : List Member) (i : ℕ) (y : MakerRow) → slice_get (makers_in members) i ≡ Some y → (x : Maker) × (slice_get (flat_map (own_maker env c) members) i ≡ Some x) × IsMakerOf env c y x
 maker_found env c [] i y is = absurd (none-some y is)
-maker_found env c (member.Field f ∷ more) i y is = maker_found env c more i y is
-maker_found env c (member.Method m ∷ more) i y is = maker_found env c more i y is
-maker_found env c (member.Empty ∷ more) i y is = maker_found env c more i y is
 maker_found env c (member.Maker m ∷ more) zero y is = (core_maker env c m, refl, (refl, ap (λ r. declared_types env.symbols.names r.params) (same_Some (maker_row m) y is)))
 maker_found env c (member.Maker m ∷ more) (suc i) y is = maker_found env c more i y is
+maker_found env c (_ ∷ more) i y is = maker_found env c more i y is
 
 pub maker_counts : (n : ℕ) (numbers : Numbers) (row : ClassRow) → is_built_in n ≡ false → (numbers_after n numbers row).maker ≡ numbers.maker + length row.makers
 maker_counts n numbers row other = ap (λ b. (if b then numbers else record { method = numbers.method + length row.methods; maker = numbers.maker + length row.makers; made = numbers.made + made_for n row }).maker) other
@@ -97,7 +94,7 @@ written_found names c number ms arity m is =
     let y = found_by (maker_symbol names c (shifted number n)) (slice_get ms n) m (sym (maker_symbol_at names c number ms n) ∙ is_m) in
     (n, y.0, y.1, y.2, arity_of (λ m. length m.params) ms arity n y.0 is_n y.1))
 
-module _ (tree : FileTree) (constants : List (ℕ × Option Literal)) (none : of_members (declaration_faults (env_with (table_of tree) tree [])) 18 tree.classes ≡ []) where
+module _ (tree : FileTree) (constants : List (ℕ × Option Scalar)) (none : of_members (declaration_faults (env_with (table_of tree) tree [])) 18 tree.classes ≡ []) where
   abbrev table : ClassTable
   table = table_of tree
 

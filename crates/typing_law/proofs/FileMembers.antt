@@ -1,11 +1,10 @@
 -- The fields that a file's symbols name are those of its program.
-use Rattle.std.proofs.Common.{◌≡◌, ◌∙◌, ℕ, zero, suc, ◌+◌, ◌≤◌, Bool, true, false, not, ◌==◌, IsTrue, List, [], ◌∷◌, ◌++◌, length, map, reverse, Option, Some, None, option_map, is_some, slice_get, refl, subst, sym, ap, arith}
+use Rattle.std.proofs.Common.{◌≡◌, ◌∙◌, ℕ, zero, suc, ◌+◌, ◌≤◌, true, ◌==◌, IsTrue, List, [], ◌∷◌, ◌++◌, length, map, reverse, Option, Some, None, option_map, is_some, slice_get, refl, subst, sym, ap, arith}
 use Rattle.std.specs.Prelude.{option_and_then, position, filter, unwrap_or}
-use Rattle.std.specs.List.{flat_map, list_any}
+use Rattle.std.specs.List.{flat_map}
 use Rattle.std.specs.Option.{option_map_or}
 use Rattle.std.proofs.lemmas.Option.{none-some, same_Some, option_and_then_some, slice_get-map}
 use Rattle.std.proofs.lemmas.Bool.{false≢true}
-use Rattle.core_tree.specs.declared.ty.Ty.{Ty}
 use Rattle.core_tree.specs.Typing.{field_type}
 use Rattle.core_tree.specs.WellTyped.{is_value}
 use Rattle.core_tree.proofs.TypeNodes.{is_value_type-Text}
@@ -14,29 +13,27 @@ use Rattle.java_syntax.specs.declared.class.FieldTree.{FieldTree}
 use Rattle.java_syntax.specs.declared.class.FileTree.{FileTree}
 use Rattle.java_syntax.specs.declared.class.Member.{Member}
 use Rattle.java_syntax.specs.declared.class.Member.TheVariants as member
-use Rattle.java_syntax.specs.declared.name.TypeTree.{TypeTree}
+use Rattle.token_reading.specs.declared.name.TypeTree.{TypeTree}
 use Rattle.class_table.specs.declared.row.ClassRow.{ClassRow}
 use Rattle.class_table.specs.declared.row.ClassTable.{ClassTable}
 use Rattle.class_table.specs.declared.row.FieldRow.{FieldRow}
 use Rattle.class_table.specs.BuiltIn.{built_in, message_field}
 use Rattle.class_table.specs.Ancestors.{superclasses}
-use Rattle.class_table.specs.Declarations.{declaration, declarations, declared_of}
+use Rattle.class_table.specs.Declarations.{declaration, declared_of}
 use Rattle.class_table.specs.Fields.{fields_along, fields_at, instance_total, placed_at}
 use Rattle.class_table.specs.Members.{field_row, fields_in, is_instance, is_static}
 use Rattle.class_table.specs.Names.{Name, class_names, same_name}
 use Rattle.class_table.specs.Table.{row_of, table_of}
 use Rattle.class_table.specs.TableFacts.{IsTable, fields_above}
-use Rattle.java_names.specs.declared.symbol.ClassSymbol.{ClassSymbol}
 use Rattle.java_names.specs.declared.symbol.FieldSymbol.{FieldSymbol}
 use Rattle.java_names.specs.Lookups.{class_at, line_of, is_below, field_in, field_at}
 use Rattle.java_names.specs.Numbers.{first_numbers}
 use Rattle.java_names.specs.Symbols.{class_symbol, field_symbol, own_fields}
 use Rattle.java_names.specs.Types.{declared_type}
-use Rattle.java_exprs.specs.declared.environment.Environment.{Environment}
-use Rattle.java_exprs.specs.declared.literal.Literal.{Literal}
+use Rattle.primitive_operators.specs.declared.scalar.Scalar.{Scalar}
 use Rattle.java_exprs.specs.Lookups.{member_of, unknown_type}
-use Rattle.java_types.specs.Declarations.{declaration_faults}
-use Rattle.java_types.specs.Files.{of_members, core_class, fields_of, all_own_fields}
+use Rattle.java_members.specs.Declarations.{declaration_faults}
+use Rattle.java_members.specs.Files.{of_members, core_class, fields_of, all_own_fields}
 use Rattle.typing_law.proofs.NoFaults.{empty_parts}
 use Rattle.typing_law.proofs.Scopes.{get_before}
 use Rattle.typing_law.proofs.Spelled.{declared_value}
@@ -45,9 +42,12 @@ use Rattle.typing_law.proofs.FileClasses.{declaration_at, of_class, none_10}
 use Rattle.typing_law.proofs.FileMakers.{found_by}
 use Rattle.typing_law.proofs.FileMethods.{nearest_in, all_names, all_selectors, symbols}
 use Rattle.typing_law.proofs.FileChosen.{row_of_below}
-use Rattle.typing_law.proofs.FileFields.{core_types, row_types, line_types, filter_append}
+use Rattle.typing_law.proofs.FileFields.{core_types, row_types, line_types}
 use Rattle.typing_law.proofs.FileLines.{on, line_cases, line_is}
-use Rattle.typing_law.proofs.FieldRows.{Each, each_append, each_flat, InFilter, filtered, each_numbered, instance_at}
+use Rattle.typing_law.proofs.FieldRows.{Each, each_flat, filtered, each_numbered, instance_at}
+use Rattle.std.proofs.lemmas.List.Elements.{filter-append}
+use Rattle.typing_law.proofs.Found.{not_false}
+use Rattle.std.proofs.Math.Nat.{le_refl}
 
 -- a constant of the file, by the token of its name and its type
 pub record IsConstant (ks : List ClassTree) (at : ℕ) (spelled : TypeTree) : Type 0 where
@@ -61,14 +61,10 @@ pub record IsConstant (ks : List ClassTree) (at : ℕ) (spelled : TypeTree) : Ty
   pub token : field.name.at ≡ at
   pub type : field.ty ≡ spelled
 
-not_instance : (b : Bool) → not b ≡ false → b ≡ true
-not_instance true is = refl
-not_instance false is = absurd (false≢true (sym is))
-
 some_place : (place : Option ℕ) (n : ℕ) → place ≡ Some n → is_some place ≡ true
 some_place place n is = ap is_some is
 
-module _ (tree : FileTree) (constants : List (ℕ × Option Literal)) (none : of_members (declaration_faults (env_with (table_of tree) tree [])) 18 tree.classes ≡ []) where
+module _ (tree : FileTree) (constants : List (ℕ × Option Scalar)) (none : of_members (declaration_faults (env_with (table_of tree) tree [])) 18 tree.classes ≡ []) where
   abbrev table : ClassTable
   table = table_of tree
 
@@ -106,9 +102,6 @@ module _ (tree : FileTree) (constants : List (ℕ × Option Literal)) (none : of
   fields_known : (c : ℕ) (k : ClassTree) → Within k → (n : ℕ) (members : List Member) → ((i : ℕ) (m : Member) → slice_get members i ≡ Some m → slice_get k.members (n + i) ≡ Some m) → flat_map (declaration_faults (env_with table tree []) c) members ≡ [] →
       (i : ℕ) (f : FieldRow) → slice_get (fields_in c members) i ≡ Some f → IsDeclared f
   fields_known c k within n [] here clear i f is = absurd (none-some f is)
-  fields_known c k within n (member.Method m ∷ more) here clear i f is = fields_known c k within (suc n) more (shift n k (member.Method m) more here) (empty_parts (declaration_faults (env_with table tree []) c (member.Method m)) (flat_map (declaration_faults (env_with table tree []) c) more) clear).1 i f is
-  fields_known c k within n (member.Maker m ∷ more) here clear i f is = fields_known c k within (suc n) more (shift n k (member.Maker m) more here) (empty_parts (declaration_faults (env_with table tree []) c (member.Maker m)) (flat_map (declaration_faults (env_with table tree []) c) more) clear).1 i f is
-  fields_known c k within n (member.Empty ∷ more) here clear i f is = fields_known c k within (suc n) more (shift n k member.Empty more here) (empty_parts (declaration_faults (env_with table tree []) c member.Empty) (flat_map (declaration_faults (env_with table tree []) c) more) clear).1 i f is
   fields_known c k within n (member.Field t ∷ more) here clear (suc i) f is = fields_known c k within (suc n) more (shift n k (member.Field t) more here) (empty_parts (declaration_faults (env_with table tree []) c (member.Field t)) (flat_map (declaration_faults (env_with table tree []) c) more) clear).1 i f is
   fields_known c k within n (member.Field t ∷ more) here clear zero f is =
       let parts = empty_parts (declaration_faults (env_with table tree []) c (member.Field t)) (flat_map (declaration_faults (env_with table tree []) c) more) clear in
@@ -117,6 +110,7 @@ module _ (tree : FileTree) (constants : List (ℕ × Option Literal)) (none : of
         value = declared_value (env_with table tree []) (program_with table tree constants) (class_within table tree constants) t.ty known;
         constant = λ static. record { class = within.0; tree = k; is_class = within.1; number = n + 0; field = t; is_field = here 0 (member.Field t) refl; static = static; token = refl; type = refl };
       })
+  fields_known c k within n (x ∷ more) here clear i f is = fields_known c k within (suc n) more (shift n k x more here) (empty_parts (declaration_faults (env_with table tree []) c x) (flat_map (declaration_faults (env_with table tree []) c) more) clear).1 i f is
 
   of_tree : (j : ℕ) (found : Option ClassTree) → slice_get tree.classes j ≡ found → Each IsDeclared (option_map_or (λ d. d.fields) (option_map (declaration (class_names tree.classes) (18 + j)) found) [])
   of_tree j None is_tree i f is = absurd (none-some f is)
@@ -133,36 +127,20 @@ module _ (tree : FileTree) (constants : List (ℕ × Option Literal)) (none : of
 
   own_known : (d : ℕ) → Each IsDeclared (fields_at (declared_of tree.classes) d)
   unfolding declared_of built_in
-  own_known zero = nothing
   own_known (suc zero) = message
-  own_known (suc (suc zero)) = nothing
-  own_known (suc (suc (suc zero))) = nothing
-  own_known (suc (suc (suc (suc zero)))) = nothing
-  own_known (suc (suc (suc (suc (suc zero))))) = nothing
-  own_known (suc (suc (suc (suc (suc (suc zero)))))) = nothing
-  own_known (suc (suc (suc (suc (suc (suc (suc zero))))))) = nothing
-  own_known (suc (suc (suc (suc (suc (suc (suc (suc zero)))))))) = nothing
-  own_known (suc (suc (suc (suc (suc (suc (suc (suc (suc zero))))))))) = nothing
-  own_known (suc (suc (suc (suc (suc (suc (suc (suc (suc (suc zero)))))))))) = nothing
-  own_known (suc (suc (suc (suc (suc (suc (suc (suc (suc (suc (suc zero))))))))))) = nothing
-  own_known (suc (suc (suc (suc (suc (suc (suc (suc (suc (suc (suc (suc zero)))))))))))) = nothing
-  own_known (suc (suc (suc (suc (suc (suc (suc (suc (suc (suc (suc (suc (suc zero))))))))))))) = nothing
-  own_known (suc (suc (suc (suc (suc (suc (suc (suc (suc (suc (suc (suc (suc (suc zero)))))))))))))) = nothing
-  own_known (suc (suc (suc (suc (suc (suc (suc (suc (suc (suc (suc (suc (suc (suc (suc zero))))))))))))))) = nothing
-  own_known (suc (suc (suc (suc (suc (suc (suc (suc (suc (suc (suc (suc (suc (suc (suc (suc zero)))))))))))))))) = nothing
-  own_known (suc (suc (suc (suc (suc (suc (suc (suc (suc (suc (suc (suc (suc (suc (suc (suc (suc zero))))))))))))))))) = nothing
   own_known (suc (suc (suc (suc (suc (suc (suc (suc (suc (suc (suc (suc (suc (suc (suc (suc (suc (suc j)))))))))))))))))) =
       subst (λ found. Each IsDeclared (option_map_or (λ d. d.fields) found [])) (sym (declaration_at (class_names tree.classes) 18 tree.classes j)) (of_tree j (slice_get tree.classes j) refl)
+  own_known _ = nothing
 
   placed_known : (d : ℕ) → Each IsPlaced (placed_at (declared_of tree.classes) d)
   placed_known d = each_numbered IsPlaced (λ f. IsDeclared f × Stands f.at f.ty)
       (λ f known n instance. record { value = known.0.value; stands = known.1; instance = instance; constant = λ is_none. absurd (none-some n (sym is_none)) })
-      (λ f known other. record { value = known.0.value; stands = known.1; instance = other; constant = λ is_none. known.0.constant (not_instance (is_static f.mods) other) })
+      (λ f known other. record { value = known.0.value; stands = known.1; instance = other; constant = λ is_none. known.0.constant (not_false (is_static f.mods) other) })
       (instance_total (declared_of tree.classes) (superclasses (declared_of tree.classes) d)) (fields_at (declared_of tree.classes) d) (λ i f is. (own_known d i f is, (d, i, f, is, refl, refl)))
 
   -- ---- the fields of a row
 
-  row_fields : (c : ℕ) (row : ClassRow) → slice_get table.classes c ≡ Some row → row.fields ≡ fields_along (declared_of tree.classes) row.line
+  pub row_fields : (c : ℕ) (row : ClassRow) → slice_get table.classes c ≡ Some row → row.fields ≡ fields_along (declared_of tree.classes) row.line
   row_fields c row is =
       let declared = declared_of tree.classes in
       let found = found_by (row_of declared (0 + c)) (slice_get declared c) row (sym (row_at declared 0 declared c) ∙ is) in
@@ -226,7 +204,7 @@ module _ (tree : FileTree) (constants : List (ℕ × Option Literal)) (none : of
         let facts = is_table.rows c row is in
         let front = inherited n q above d there place f (omega arith) is_q on_above is_there at in
         ap (λ fs. slice_get (filter is_instance fs) place) (facts.fields ∙ ap (λ o. fields_above table.classes o ++ facts.own) is_parent ∙ ap (λ r. option_map_or (λ row. row.fields) r [] ++ facts.own) is_q)
-        ∙ ap (λ xs. slice_get xs place) (filter_append is_instance above.fields facts.own)
+        ∙ ap (λ xs. slice_get xs place) (filter-append is_instance above.fields facts.own)
         ∙ get_before (filter is_instance above.fields) (filter is_instance facts.own) place f front)
 
     -- what stands at a place of a row has its type at that place of the program's class
@@ -254,9 +232,6 @@ module _ (tree : FileTree) (constants : List (ℕ × Option Literal)) (none : of
         let on_line = subst (on tree constants none is_table short found.class) (line_is tree constants none is_table short c row.0 row.1) found.below in
         same_place c row.0 place found.row row.1 (inherited (length row.0.line) c row.0 found.class found.there place found.row (le_refl (length row.0.line)) row.1 on_line found.is_there here)
         ∙ ap Some (sym (ap (λ s. s.ty) found.is_symbol))
-      where
-        le_refl : (k : ℕ) → k ≤ k
-        le_refl k = omega arith
 
   pub field_value : (c : ℕ) (m : FieldSymbol) → FieldFound c m → IsTrue (is_value (program_with table tree constants) m.ty)
   field_value c m found = subst (λ t. IsTrue (is_value (program_with table tree constants) t)) (sym (ap (λ s. s.ty) found.is_symbol)) found.known.value

@@ -6,6 +6,7 @@ use Rattle.std.specs.Option.{option_or}
 use Rattle.std.proofs.lemmas.Option.{none-some, same_Some, option_and_then_some, slice_get-map, get_or_from_slice_get}
 use Rattle.std.proofs.lemmas.Bool.{eqb-true, eq-eqb, ltb-true, ltb-false, or_left, or_right}
 use Rattle.std.proofs.lemmas.List.Quantifiers.{position-Some}
+use Rattle.std.specs.Cmp.{second_so}
 use Rattle.core_tree.specs.declared.ty.Ty.TheVariants as ty
 use Rattle.core_tree.specs.declared.program.Method.{Method}
 use Rattle.java_syntax.specs.declared.class.Member.{Member}
@@ -25,24 +26,25 @@ use Rattle.java_names.specs.declared.numbers.Numbers.{Numbers}
 use Rattle.java_names.specs.declared.symbol.MethodSymbol.{MethodSymbol}
 use Rattle.java_names.specs.declared.symbol.Selector.{Selector}
 use Rattle.java_names.specs.declared.symbol.Symbols.{Symbols}
-use Rattle.java_names.specs.BuiltIn.{is_built_in, in_file}
+use Rattle.core_tree.specs.BuiltIn.{is_built_in}
+use Rattle.java_names.specs.BuiltIn.{in_file}
 use Rattle.java_names.specs.Lookups.{class_at, line_of, is_below, nearest, method_in, method_at}
 use Rattle.java_names.specs.Numbers.{made_for, numbers_after, first_numbers}
 use Rattle.java_names.specs.Selectors.{same_selector, selector_of, selectors_of}
 use Rattle.java_names.specs.Symbols.{class_symbol, following, method_symbol, method_symbols, selectors_in, names_of, symbols_of}
 use Rattle.java_names.specs.Types.{declared_types, answer_type}
 use Rattle.java_exprs.specs.declared.environment.Environment.{Environment}
-use Rattle.java_exprs.specs.declared.literal.Literal.{Literal}
+use Rattle.primitive_operators.specs.declared.scalar.Scalar.{Scalar}
 use Rattle.java_exprs.specs.Lookups.{method_of}
-use Rattle.java_types.specs.Bodies.{core_method}
-use Rattle.java_types.specs.Declarations.{declaration_faults}
-use Rattle.java_types.specs.Files.{own_method, of_members}
+use Rattle.java_members.specs.Bodies.{core_method}
+use Rattle.java_members.specs.Declarations.{declaration_faults}
+use Rattle.java_members.specs.Files.{own_method, of_members}
 use Rattle.typing_law.specs.Agrees.{AgreesOnStatic}
-use Rattle.typing_law.proofs.Standing.{and_r}
 use Rattle.typing_law.proofs.Tables.{row_at, numbers_at, env_with, program_with, class_symbol_at, class_within}
 use Rattle.typing_law.proofs.Numbered.{stands_at}
 use Rattle.typing_law.proofs.FileClasses.{tree_at, of_class, HasMethodValues, method_values}
-use Rattle.typing_law.proofs.FileMakers.{shifted, found_by}
+use Rattle.typing_law.proofs.FileMakers.{shifted, found_by, first_shifted, next_shifted}
+use Rattle.typing_law.proofs.Found.{too_great}
 
 -- ---- the methods of a class
 
@@ -50,16 +52,8 @@ pub method_symbol_at : (names : List Name) (selectors : List Selector) (owner : 
     slice_get (method_symbols names selectors owner number rows) n ≡ option_map (method_symbol names selectors owner (shifted number n)) (slice_get rows n)
 unfolding shifted
 method_symbol_at names selectors owner number [] n = refl
-method_symbol_at names selectors owner number (m ∷ more) zero = ap (λ k. Some (method_symbol names selectors owner k m)) (here number)
-  where
-    here : (number : Option ℕ) → number ≡ option_map (λ k. k + 0) number
-    here None = refl
-    here (Some k) = let e : k ≡ k + 0 = omega arith in ap Some e
-method_symbol_at names selectors owner number (m ∷ more) (suc n) = method_symbol_at names selectors owner (following number) more n ∙ ap (λ k. option_map (method_symbol names selectors owner k) (slice_get more n)) (on number)
-  where
-    on : (number : Option ℕ) → option_map (λ k. k + n) (following number) ≡ option_map (λ k. k + suc n) number
-    on None = refl
-    on (Some k) = let e : k + 1 + n ≡ k + suc n = omega arith in ap Some e
+method_symbol_at names selectors owner number (m ∷ more) zero = ap (λ k. Some (method_symbol names selectors owner k m)) (first_shifted number)
+method_symbol_at names selectors owner number (m ∷ more) (suc n) = method_symbol_at names selectors owner (following number) more n ∙ ap (λ k. option_map (method_symbol names selectors owner k) (slice_get more n)) (next_shifted n number)
 
 -- what is found by its name and number of parameters
 pub record MethodFound (names : List Name) (selectors : List Selector) (d : ℕ) (number : Option ℕ) (ms : List MethodRow) (key : Selector) (m : MethodSymbol) : Type 0 where
@@ -95,48 +89,25 @@ pub record IsMethodOf (env : Environment) (c : ℕ) (y : MethodRow) (x : Method)
 
 method_lengths : (env : Environment) (c : ℕ) (members : List Member) → length (flat_map (own_method env c) members) ≡ length (methods_in members)
 method_lengths env c [] = refl
-method_lengths env c (member.Field f ∷ more) = method_lengths env c more
 method_lengths env c (member.Method m ∷ more) = ap suc (method_lengths env c more)
-method_lengths env c (member.Maker m ∷ more) = method_lengths env c more
-method_lengths env c (member.Empty ∷ more) = method_lengths env c more
+method_lengths env c (_ ∷ more) = method_lengths env c more
 
 own_found : (env : Environment) (c : ℕ) (members : List Member) (i : ℕ) (y : MethodRow) → slice_get (methods_in members) i ≡ Some y → (x : Method) × (slice_get (flat_map (own_method env c) members) i ≡ Some x) × IsMethodOf env c y x
 own_found env c [] i y is = absurd (none-some y is)
-own_found env c (member.Field f ∷ more) i y is = own_found env c more i y is
-own_found env c (member.Maker m ∷ more) i y is = own_found env c more i y is
-own_found env c (member.Empty ∷ more) i y is = own_found env c more i y is
 own_found env c (member.Method m ∷ more) zero y is = (core_method env c m, refl, subst (λ r. IsMethodOf env c r (core_method env c m)) (same_Some (method_row m) y is) (record { owner = refl; on_object = refl; params = refl; answer = refl }))
 own_found env c (member.Method m ∷ more) (suc i) y is = own_found env c more i y is
+own_found env c (_ ∷ more) i y is = own_found env c more i y is
 
 method_counts : (n : ℕ) (numbers : Numbers) (row : ClassRow) → is_built_in n ≡ false → (numbers_after n numbers row).method ≡ numbers.method + length row.methods
 method_counts n numbers row other = ap (λ b. (if b then numbers else record { method = numbers.method + length row.methods; maker = numbers.maker + length row.makers; made = numbers.made + made_for n row }).method) other
 
 -- ---- built-in classes: Throwable alone has a method
 
-too_great : (c : ℕ) {Q : Type 0} → suc (suc (suc (suc (suc (suc (suc (suc (suc (suc (suc (suc (suc (suc (suc (suc (suc (suc c))))))))))))))))) < 18 → Q
-too_great c below = absurd (omega arith)
-
 pub built_methods : (ks : List ClassTree) (c : ℕ) (d : Declaration) → c < 18 → slice_get (declared_of ks) c ≡ Some d → (d.methods ≡ []) ⊎ ((d.methods ≡ get_message ∷ []) × (c ≡ 1))
 unfolding declared_of built_in
 built_methods ks (suc zero) d below is = inr (ap (λ d. d.methods) (sym (same_Some _ d is)), refl)
-built_methods ks zero d below is = inl (ap (λ d. d.methods) (sym (same_Some _ d is)))
-built_methods ks (suc (suc zero)) d below is = inl (ap (λ d. d.methods) (sym (same_Some _ d is)))
-built_methods ks (suc (suc (suc zero))) d below is = inl (ap (λ d. d.methods) (sym (same_Some _ d is)))
-built_methods ks (suc (suc (suc (suc zero)))) d below is = inl (ap (λ d. d.methods) (sym (same_Some _ d is)))
-built_methods ks (suc (suc (suc (suc (suc zero))))) d below is = inl (ap (λ d. d.methods) (sym (same_Some _ d is)))
-built_methods ks (suc (suc (suc (suc (suc (suc zero)))))) d below is = inl (ap (λ d. d.methods) (sym (same_Some _ d is)))
-built_methods ks (suc (suc (suc (suc (suc (suc (suc zero))))))) d below is = inl (ap (λ d. d.methods) (sym (same_Some _ d is)))
-built_methods ks (suc (suc (suc (suc (suc (suc (suc (suc zero)))))))) d below is = inl (ap (λ d. d.methods) (sym (same_Some _ d is)))
-built_methods ks (suc (suc (suc (suc (suc (suc (suc (suc (suc zero))))))))) d below is = inl (ap (λ d. d.methods) (sym (same_Some _ d is)))
-built_methods ks (suc (suc (suc (suc (suc (suc (suc (suc (suc (suc zero)))))))))) d below is = inl (ap (λ d. d.methods) (sym (same_Some _ d is)))
-built_methods ks (suc (suc (suc (suc (suc (suc (suc (suc (suc (suc (suc zero))))))))))) d below is = inl (ap (λ d. d.methods) (sym (same_Some _ d is)))
-built_methods ks (suc (suc (suc (suc (suc (suc (suc (suc (suc (suc (suc (suc zero)))))))))))) d below is = inl (ap (λ d. d.methods) (sym (same_Some _ d is)))
-built_methods ks (suc (suc (suc (suc (suc (suc (suc (suc (suc (suc (suc (suc (suc zero))))))))))))) d below is = inl (ap (λ d. d.methods) (sym (same_Some _ d is)))
-built_methods ks (suc (suc (suc (suc (suc (suc (suc (suc (suc (suc (suc (suc (suc (suc zero)))))))))))))) d below is = inl (ap (λ d. d.methods) (sym (same_Some _ d is)))
-built_methods ks (suc (suc (suc (suc (suc (suc (suc (suc (suc (suc (suc (suc (suc (suc (suc zero))))))))))))))) d below is = inl (ap (λ d. d.methods) (sym (same_Some _ d is)))
-built_methods ks (suc (suc (suc (suc (suc (suc (suc (suc (suc (suc (suc (suc (suc (suc (suc (suc zero)))))))))))))))) d below is = inl (ap (λ d. d.methods) (sym (same_Some _ d is)))
-built_methods ks (suc (suc (suc (suc (suc (suc (suc (suc (suc (suc (suc (suc (suc (suc (suc (suc (suc zero))))))))))))))))) d below is = inl (ap (λ d. d.methods) (sym (same_Some _ d is)))
 built_methods ks (suc (suc (suc (suc (suc (suc (suc (suc (suc (suc (suc (suc (suc (suc (suc (suc (suc (suc c)))))))))))))))))) d below is = too_great c below
+built_methods ks _ d below is = inl (ap (λ d. d.methods) (sym (same_Some _ d is)))
 
 -- ---- the nearest class that has something
 
@@ -149,7 +120,7 @@ nearest_in at (c ∷ line) x is = cases (nearest_in at line x) (at c) refl is
     cases more (Some y) is_c is = (c, or_left (c == c) (list_any (λ a. a == c) line) (eq-eqb c c refl), is_c ∙ is)
 
 -- a method of the file that class d declares
-module _ (tree : FileTree) (constants : List (ℕ × Option Literal)) (none : of_members (declaration_faults (env_with (table_of tree) tree [])) 18 tree.classes ≡ []) where
+module _ (tree : FileTree) (constants : List (ℕ × Option Scalar)) (none : of_members (declaration_faults (env_with (table_of tree) tree [])) 18 tree.classes ≡ []) where
   abbrev table : ClassTable
   table = table_of tree
 
@@ -217,7 +188,7 @@ module _ (tree : FileTree) (constants : List (ℕ × Option Literal)) (none : of
   look d number ms key = option_and_then (λ n. slice_get (method_symbols all_names all_selectors d number ms) n) (position (same_selector key) (selectors_in ms))
 
   same_arity : (x : List ℕ) (arity : ℕ) (y : MethodRow) → same_selector (record { name = x; arity = arity }) (selector_of y) ≡ true → length y.params ≡ arity
-  same_arity x arity y same = sym (eqb-true arity (length y.params) (and_r (same_name x y.name) (nat_eq arity (length y.params)) same))
+  same_arity x arity y same = sym (eqb-true arity (length y.params) (second_so (same_name x y.name) (nat_eq arity (length y.params)) same))
 
   message_answer : answer_type all_names (Some string_type) ≡ ty.Text
   message_answer = refl

@@ -1,5 +1,5 @@
 -- The method that a selector picks in a class is the one that is looked up there.
-use Rattle.std.proofs.Common.{◌≡◌, ◌∙◌, ℕ, zero, suc, ◌+◌, ◌<◌, Bool, true, false, ◌||◌, ◌==◌, List, [], ◌∷◌, ◌++◌, length, Option, Some, None, is_some, slice_get, get_or, refl, subst, sym, ap, arith, if◌then◌else◌}
+use Rattle.std.proofs.Common.{◌≡◌, ◌∙◌, ℕ, zero, suc, ◌+◌, ◌<◌, Bool, true, false, ◌||◌, ◌==◌, List, [], ◌∷◌, ◌++◌, length, Option, Some, None, slice_get, get_or, refl, subst, sym, ap, arith, if◌then◌else◌}
 use Rattle.std.specs.Prelude.{option_and_then, nat_eq, position, fold}
 use Rattle.std.specs.List.{flat_map, list_any}
 use Rattle.std.specs.Option.{option_or}
@@ -9,6 +9,7 @@ use Rattle.std.proofs.lemmas.Bool.{false≢true, eqb-true, eq-eqb, or_left, or_r
 use Rattle.std.proofs.lemmas.Cmp.{nat_list_eq_equiv}
 use Rattle.std.proofs.lemmas.List.Folds.{list_any-append}
 use Rattle.std.proofs.lemmas.List.Quantifiers.{position-Some}
+use Rattle.std.specs.Cmp.{first_so, second_so}
 use Rattle.class_table.specs.declared.row.ClassRow.{ClassRow}
 use Rattle.class_table.specs.declared.row.MethodRow.{MethodRow}
 use Rattle.class_table.specs.Members.{is_static}
@@ -20,16 +21,16 @@ use Rattle.java_names.specs.Lookups.{nearest}
 use Rattle.java_names.specs.Selectors.{same_selector, selector_of, message_selector, with_selector, selectors_of}
 use Rattle.java_names.specs.Symbols.{following, method_symbol, method_symbols, selectors_in}
 use Rattle.java_names.proofs.NumberingLemmas.{is_some-position}
-use Rattle.typing_law.proofs.Standing.{and_l, and_r}
 use Rattle.typing_law.proofs.Operators.{no_or}
 use Rattle.typing_law.proofs.Scopes.{get_before}
 use Rattle.typing_law.proofs.Numbered.{get_behind}
+use Rattle.typing_law.proofs.Found.{some_of}
 
 -- ---- selectors that are the same
 
 pub same_parts : (a b : Selector) → same_selector a b ≡ true → (a.name ≡ b.name) × (a.arity ≡ b.arity)
 same_parts a b same =
-    (same_text a.name b.name (sym (and_l (same_name a.name b.name) (nat_eq a.arity b.arity) same)), eqb-true a.arity b.arity (and_r (same_name a.name b.name) (nat_eq a.arity b.arity) same))
+    (same_text a.name b.name (sym (first_so (same_name a.name b.name) (nat_eq a.arity b.arity) same)), eqb-true a.arity b.arity (second_so (same_name a.name b.name) (nat_eq a.arity b.arity) same))
 
 pub of_parts : (a b : Selector) → a.name ≡ b.name → a.arity ≡ b.arity → same_selector a b ≡ true
 of_parts a b name arity = and_from (same_name a.name b.name) (nat_eq a.arity b.arity) (ap (same_name a.name) (sym name) ∙ nat_list_eq_equiv.refl a.name) (eq-eqb a.arity b.arity arity)
@@ -113,10 +114,6 @@ in_some : (rows : List ClassRow) (d i : ℕ) (row : ClassRow) (y : MethodRow) �
 in_some [] d i row y is is_y = absurd (none-some row is)
 in_some (r ∷ rows) zero i row y is is_y = (i, get_before r.methods (flat_map (λ row. row.methods) rows) i y (ap (λ k. slice_get k.methods i) (same_Some r row is) ∙ is_y))
 in_some (r ∷ rows) (suc d) i row y is is_y = let more = in_some rows d i row y is is_y in (length r.methods + more.0, get_behind r.methods (flat_map (λ row. row.methods) rows) more.0 ∙ more.1)
-
-some_of : {X : Type 0} (found : Option X) → is_some found ≡ true → (x : X) × (found ≡ Some x)
-some_of None is = absurd (false≢true is)
-some_of (Some x) is = (x, refl)
 
 -- an instance method has a selector
 pub has_selector : (rows : List ClassRow) (d i : ℕ) (row : ClassRow) (y : MethodRow) → slice_get rows d ≡ Some row → slice_get row.methods i ≡ Some y → is_static y.mods ≡ false → (k : ℕ) × (position (same_selector (selector_of y)) (selectors_of rows) ≡ Some k)

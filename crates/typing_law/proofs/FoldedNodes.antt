@@ -1,15 +1,16 @@
 -- The value of an initialiser that breaks no rule has the type that the rules give it.
-use Rattle.std.proofs.Common.{◌≡◌, ◌∙◌, ℕ, ℤ, Bool, true, false, not, ◌||◌, ◌&&◌, ◌==◌, IsTrue, List, [], ◌∷◌, ◌++◌, map, Option, Some, None, option_map, is_some, refl, subst, sym, ap, if◌then◌else◌}
+use Rattle.std.proofs.Common.{◌≡◌, ◌∙◌, ℕ, ℤ, Bool, true, false, not, ◌||◌, ◌&&◌, IsTrue, List, [], ◌∷◌, ◌++◌, Option, Some, None, is_some, refl, subst, sym, ap, if◌then◌else◌}
 use Rattle.std.specs.Prelude.{nat_le, int_div, int_rem, option_and_then, pos}
 use Rattle.std.specs.List.{list_all}
 use Rattle.std.specs.Option.{option_map_or}
-use Rattle.std.proofs.lemmas.Bool.{false≢true, or_right}
+use Rattle.std.proofs.lemmas.Bool.{false≢true}
+use Rattle.std.specs.Cmp.{first_so, second_so}
 use Rattle.pb_int.specs.Int32.{wrap}
 use Rattle.core_tree.specs.declared.ty.Ty.{Ty}
 use Rattle.core_tree.specs.declared.ty.Ty.TheVariants as ty
 use Rattle.core_tree.specs.declared.program.Class.{Class as CoreClass}
-use Rattle.core_tree.specs.Types.{is_int, is_boolean, is_string, is_null, is_void, is_subclass}
-use Rattle.java_syntax.specs.declared.name.Ident.{Ident}
+use Rattle.core_tree.specs.Types.{is_int, is_boolean, is_string, is_null, is_subclass}
+use Rattle.token_reading.specs.declared.name.Ident.{Ident}
 use Rattle.java_syntax.specs.declared.operator.UnaryOp.{UnaryOp}
 use Rattle.java_syntax.specs.declared.operator.UnaryOp.TheVariants as unary
 use Rattle.java_syntax.specs.declared.operator.BinaryOp.{BinaryOp}
@@ -18,34 +19,36 @@ use Rattle.java_syntax.specs.declared.expression.Expr.{Expr}
 use Rattle.java_syntax.specs.declared.expression.Expr.TheOpen.{Expr-F}
 use Rattle.java_syntax.specs.declared.expression.Expr.TheViews.{roll-Expr}
 use Rattle.java_syntax.specs.declared.expression.Expr.TheFolds.{fold-roll-Expr, ind-Expr, map-Expr}
-use Rattle.class_table.specs.Names.{Name, same_name}
+use Rattle.class_table.specs.Names.{Name}
 use Rattle.java_names.specs.declared.scope.Scope.{Scope}
 use Rattle.java_names.specs.declared.symbol.FieldSymbol.{FieldSymbol}
 use Rattle.java_names.specs.Lookups.{is_below}
-use Rattle.java_names.specs.Scope.{Denoted, Local, Field, Class, Unknown, meaning_of}
+use Rattle.java_names.specs.Scope.{meaning_of}
 use Rattle.java_exprs.specs.declared.environment.Environment.{Environment}
-use Rattle.java_exprs.specs.declared.literal.Literal.{Literal}
-use Rattle.java_exprs.specs.declared.literal.Literal.TheVariants as literal
+use Rattle.primitive_operators.specs.declared.scalar.Scalar.{Scalar}
+use Rattle.primitive_operators.specs.declared.scalar.Scalar.TheVariants as scalar
 use Rattle.java_exprs.specs.declared.folded.Folded.{Folded}
 use Rattle.java_exprs.specs.declared.folded.Folded.TheVariants as folded
-use Rattle.java_exprs.specs.declared.typed.Denotation.{Denotation}
-use Rattle.java_exprs.specs.declared.typed.Denotation.TheVariants as denotes
-use Rattle.java_exprs.specs.Attr.{Attr, value_type, unless, only_if, of_rule, named_10, nothing_11, bare_19, value_faults, negated_faults, prefix_faults}
-use Rattle.java_exprs.specs.Types as rules
-use Rattle.java_exprs.specs.Lookups.{member_of, class_named, local_named, local_denotes, variable_denotes}
-use Rattle.java_exprs.specs.Members.{naming, naming_behind}
-use Rattle.java_exprs.specs.Denotes.{value, binary_type, bitwise_type, class_denotes, member_denotes, library_field, choice_type, unary_type}
-use Rattle.java_exprs.specs.Rules.{wants, of_types, both_11, bitwise_11, is_bitwise, fits_bitwise, equality_11, equality_16, sum_11, choice_11}
+use Rattle.java_denotes.specs.declared.denotation.Denotation.{Denotation}
+use Rattle.java_denotes.specs.declared.denotation.Denotation.TheVariants as denotes
+use Rattle.java_exprs.specs.Attr.{Attr, unless, only_if, of_rule, named_10, nothing_11, bare_19, value_faults, negated_faults}
+use Rattle.java_denotes.specs.Members.{value_type}
+use Rattle.java_denotes.specs.Types as rules
+use Rattle.java_exprs.specs.Lookups.{member_of, class_named, local_named}
+use Rattle.java_denotes.specs.Lookups.{variable_denotes}
+use Rattle.java_exprs.specs.Members.{naming_behind}
+use Rattle.java_denotes.specs.Denotes.{value, binary_type, bitwise_type, member_denotes, library_field, choice_type}
+use Rattle.java_exprs.specs.Rules.{wants, of_types, both_11, bitwise_11, is_bitwise, fits_bitwise, equality_11, equality_16, sum_11}
 use Rattle.java_exprs.specs.Checks.{attr, attr_at}
 use Rattle.java_exprs.specs.Constants.{field_folded, found_folded, name_folded, behind_folded, folded_at, folded_of}
-use Rattle.java_exprs.specs.Operators.{is_made, unary_folded, binary_folded, strict_folded, binary_value, int_value, bool_value, choice_folded, gives_bool, gives_int}
-use Rattle.typing_law.proofs.TypeFacts as facts
-use Rattle.typing_law.proofs.NoFaults.{empty_parts, empty_rule, unless_empty, only_if_empty}
-use Rattle.typing_law.proofs.Standing.{and_l, and_r}
+use Rattle.java_exprs.specs.Operators.{is_made, unary_folded, binary_folded, strict_folded, binary_value, choice_folded, gives_bool, gives_int}
+use Rattle.core_tree.proofs.TypeFacts as facts
+use Rattle.typing_law.proofs.NoFaults.{empty_parts, unless_empty, only_if_empty}
 use Rattle.typing_law.proofs.Nodes.{breaks_none}
 use Rattle.typing_law.proofs.NodeKinds.{wrapped}
 use Rattle.typing_law.proofs.LiteralKinds.{Kind, AnInt, ABool, AText, ANull, kind_type, int_kind, bool_kind, text_kind, null_kind, widens, int_test, bool_test, text_test, null_test, widens_test, Fits, FoldFits, folded_widens}
 use Rattle.typing_law.proofs.FoldedOperators.{sign_fits, not_fits, strict_fits, ints_fit, bools_fit, divided_fits, digits_fit, text_fits, joined_left, joined_right, Equates, equal_fits, choice_fits}
+use Rattle.std.proofs.Math.Bool.{or-true}
 
 -- a value of a constant's type, which an evaluation gives or fails to give
 abbrev pub Typed : Option Denotation → Folded → Type 0
@@ -63,18 +66,15 @@ abbrev pub Sound : Attr → Folded → Type 0
 Sound e f = e.faults ≡ [] → Matches e.denotes f
 
 typed_of : (d : Option Denotation) (f : Folded) → Matches d f → is_made f ≡ true → Typed d f
-typed_of d (folded.Gives v) fits made = fits
-typed_of d folded.Fails fits made = fits
 typed_of d folded.Unknown fits made = absurd fits
 typed_of d (folded.Class c) fits made = absurd (false≢true made)
 typed_of d folded.Other fits made = absurd (false≢true made)
+typed_of d _ fits made = fits
 
 matches_of : (d : Option Denotation) (f : Folded) → Typed d f → Matches d f
 matches_of d (folded.Gives v) fits = fits
 matches_of d folded.Fails fits = fits
-matches_of d folded.Unknown fits = absurd fits.2
-matches_of d (folded.Class c) fits = absurd fits.2
-matches_of d folded.Other fits = absurd fits.2
+matches_of d _ fits = absurd fits.2
 
 gated : (d : Option Denotation) (made : Bool) (f : Folded) → (made ≡ true → Typed d f) → Matches d (if made then f else folded.Other)
 gated d true f fits = matches_of d f (fits refl)
@@ -99,15 +99,11 @@ asked ask l r a b said_l said_r none =
 
 only_int : (k : Kind) → int_kind k ≡ true → k ≡ AnInt
 only_int AnInt is = refl
-only_int ABool is = absurd (false≢true is)
-only_int AText is = absurd (false≢true is)
-only_int ANull is = absurd (false≢true is)
+only_int _ is = absurd (false≢true is)
 
 only_bool : (k : Kind) → bool_kind k ≡ true → k ≡ ABool
-only_bool AnInt is = absurd (false≢true is)
 only_bool ABool is = refl
-only_bool AText is = absurd (false≢true is)
-only_bool ANull is = absurd (false≢true is)
+only_bool _ is = absurd (false≢true is)
 
 int_of : (k : Kind) → IsTrue (is_int (kind_type k)) → k ≡ AnInt
 int_of k is = only_int k (sym (int_test k) ∙ is)
@@ -146,51 +142,31 @@ Bits _ _ = ⊥
 
 bits_of : (a b : Kind) → (int_kind a || bool_kind a) ≡ true → (if int_kind a then int_kind b else (if bool_kind a then bool_kind b else (int_kind b || bool_kind b))) ≡ true → Bits a b
 bits_of AnInt AnInt x y = tt
-bits_of AnInt ABool x y = absurd (false≢true y)
-bits_of AnInt AText x y = absurd (false≢true y)
-bits_of AnInt ANull x y = absurd (false≢true y)
-bits_of ABool AnInt x y = absurd (false≢true y)
 bits_of ABool ABool x y = tt
-bits_of ABool AText x y = absurd (false≢true y)
-bits_of ABool ANull x y = absurd (false≢true y)
-bits_of AText b x y = absurd (false≢true x)
-bits_of ANull b x y = absurd (false≢true x)
+bits_of AnInt _ x y = absurd (false≢true y)
+bits_of ABool _ x y = absurd (false≢true y)
+bits_of _ b x y = absurd (false≢true x)
 
 equates_of : (a b : Kind) → (text_kind a || (text_kind b || (widens a b || widens b a))) ≡ true → ((text_kind a && not (null_kind b)) || (text_kind b && not (null_kind a))) ≡ false → Equates a b
 equates_of AnInt AnInt x y = tt
-equates_of AnInt ABool x y = absurd (false≢true x)
-equates_of AnInt AText x y = absurd (false≢true (sym y))
-equates_of AnInt ANull x y = absurd (false≢true x)
-equates_of ABool AnInt x y = absurd (false≢true x)
 equates_of ABool ABool x y = tt
-equates_of ABool AText x y = absurd (false≢true (sym y))
-equates_of ABool ANull x y = absurd (false≢true x)
 equates_of AText AnInt x y = absurd (false≢true (sym y))
 equates_of AText ABool x y = absurd (false≢true (sym y))
-equates_of AText AText x y = absurd (false≢true (sym y))
 equates_of AText ANull x y = tt
-equates_of ANull AnInt x y = absurd (false≢true x)
-equates_of ANull ABool x y = absurd (false≢true x)
 equates_of ANull AText x y = tt
 equates_of ANull ANull x y = tt
+equates_of _ AText x y = absurd (false≢true (sym y))
+equates_of _ _ x y = absurd (false≢true x)
 
-any_text : (a b : Kind) → (text_kind a || text_kind b) ≡ true → (v w : Literal) → Fits v a → Fits w b → FoldFits (binary_value binary.Add v w) AText
+any_text : (a b : Kind) → (text_kind a || text_kind b) ≡ true → (v w : Scalar) → Fits v a → Fits w b → FoldFits (binary_value binary.Add v w) AText
 any_text AText b is v w x y = joined_left v w x
 any_text AnInt AText is v w x y = joined_right v w y
 any_text ABool AText is v w x y = joined_right v w y
 any_text ANull AText is v w x y = joined_right v w y
-any_text AnInt AnInt is v w x y = absurd (false≢true is)
-any_text AnInt ABool is v w x y = absurd (false≢true is)
-any_text AnInt ANull is v w x y = absurd (false≢true is)
-any_text ABool AnInt is v w x y = absurd (false≢true is)
-any_text ABool ABool is v w x y = absurd (false≢true is)
-any_text ABool ANull is v w x y = absurd (false≢true is)
-any_text ANull AnInt is v w x y = absurd (false≢true is)
-any_text ANull ABool is v w x y = absurd (false≢true is)
-any_text ANull ANull is v w x y = absurd (false≢true is)
+any_text _ _ is v w x y = absurd (false≢true is)
 
 -- a String and another value, or two ints
-sum_fits : (a b : Kind) → ((text_kind a || text_kind b) ≡ false → (a ≡ AnInt) × (b ≡ AnInt)) → (v w : Literal) → Fits v a → Fits w b → FoldFits (binary_value binary.Add v w) (sum_kind a b)
+sum_fits : (a b : Kind) → ((text_kind a || text_kind b) ≡ false → (a ≡ AnInt) × (b ≡ AnInt)) → (v w : Scalar) → Fits v a → Fits w b → FoldFits (binary_value binary.Add v w) (sum_kind a b)
 sum_fits a b ints v w x y = cases (text_kind a || text_kind b) refl
   where
     cases : (any : Bool) → (text_kind a || text_kind b) ≡ any → FoldFits (binary_value binary.Add v w) (if any then AText else AnInt)
@@ -206,17 +182,13 @@ variable_kind ANull = ap (λ b. if b then None else Some (denotes.Value ty.Null)
 -- what is read of a field or constant of a type
 abbrev pub ReadFits : Ty → Folded → Type 0
 ReadFits t (folded.Gives v) = (k : Kind) × (t ≡ kind_type k) × Fits v k
-ReadFits t folded.Fails = ⊥
-ReadFits t folded.Unknown = ⊥
-ReadFits t (folded.Class c) = ⊥
 ReadFits t folded.Other = Unit {0}
+ReadFits t _ = ⊥
 
 read_matches : (t : Ty) (f : Folded) → ReadFits t f → Matches (variable_denotes t) f
 read_matches t (folded.Gives v) fits = (fits.0, ap variable_denotes fits.1 ∙ variable_kind fits.0, fits.2)
-read_matches t folded.Fails fits = absurd fits
-read_matches t folded.Unknown fits = absurd fits
-read_matches t (folded.Class c) fits = absurd fits
 read_matches t folded.Other fits = tt
+read_matches t _ fits = absurd fits
 
 module _ (env : Environment) (s : Scope) (classes : List CoreClass) (agree : (c d : ℕ) → is_below env.symbols c d ≡ is_subclass classes c d)
     (read : (c : ℕ) (x : Name) (m : FieldSymbol) → member_of env c x ≡ Some m → ReadFits m.ty (field_folded env m)) where
@@ -237,22 +209,15 @@ module _ (env : Environment) (s : Scope) (classes : List CoreClass) (agree : (c 
       of_local (Some n) is = rw is tt
       of_local None is = of_member is (member_of env s.class x.name) refl
 
-  always : (b : Bool) → (b || true) ≡ true
-  always true = refl
-  always false = refl
-
   behind_matches : (o : Attr) (f : Ident) (fo : Folded) → Matches o.denotes fo → Matches (attr_at env s (Expr-F.Field o f)).denotes (behind_folded env fo f.name)
-  behind_matches o f (folded.Gives v) matches = tt
-  behind_matches o f folded.Fails matches = tt
-  behind_matches o f folded.Unknown matches = tt
-  behind_matches o f folded.Other matches = tt
   behind_matches o f (folded.Class c) matches =
-      subst (λ d. Matches (option_map_or (member_denotes env) (naming_behind o f d) (library_field f.name d)) (found_folded env (member_of env c f.name))) (sym matches) (of_member (member_of env c f.name) refl)
+      subst (λ d. Matches (option_map_or (member_denotes env.symbols) (naming_behind o f d) (library_field f.name d)) (found_folded env (member_of env c f.name))) (sym matches) (of_member (member_of env c f.name) refl)
     where
       of_member : (found : Option FieldSymbol) → member_of env c f.name ≡ found → Matches (option_and_then (λ m. variable_denotes m.ty) (option_and_then (λ m. if is_some m.place || true then Some m else None) found)) (found_folded env found)
       of_member None is = tt
       of_member (Some m) is =
-          subst (λ b. Matches (option_and_then (λ m. variable_denotes m.ty) (if b then Some m else None)) (field_folded env m)) (sym (always (is_some m.place))) (read_matches m.ty (field_folded env m) (read c f.name m is))
+          subst (λ b. Matches (option_and_then (λ m. variable_denotes m.ty) (if b then Some m else None)) (field_folded env m)) (sym (or-true (is_some m.place))) (read_matches m.ty (field_folded env m) (read c f.name m is))
+  behind_matches o f _ matches = tt
 
   -- ---- operators
 
@@ -260,33 +225,33 @@ module _ (env : Environment) (s : Scope) (classes : List CoreClass) (agree : (c 
   unary_sound at unary.Plus e f sound none =
       let b = breaks_none env s (Expr-F.Unary at unary.Plus e) none in
       gated (Some (denotes.Value ty.Int)) (list_all is_made (f ∷ [])) (unary_folded unary.Plus f) (λ made.
-      let t = value_sound e f sound b.below (and_l (is_made f) (list_all is_made []) made) in
+      let t = value_sound e f sound b.below (first_so (is_made f) (list_all is_made []) made) in
       (AnInt, refl, (sign_fits f (subst (FoldFits f) (int_of t.0 (wanted is_int e t.0 t.1 b.rule_11)) t.2)).0))
   unary_sound at unary.Minus e f sound none =
       let b = breaks_none env s (Expr-F.Unary at unary.Minus e) none in
       gated (Some (denotes.Value ty.Int)) (list_all is_made (f ∷ [])) (unary_folded unary.Minus f) (λ made.
-      let t = negated_sound e f sound b.below (and_l (is_made f) (list_all is_made []) made) in
+      let t = negated_sound e f sound b.below (first_so (is_made f) (list_all is_made []) made) in
       (AnInt, refl, (sign_fits f (subst (FoldFits f) (int_of t.0 (wanted is_int e t.0 t.1 b.rule_11)) t.2)).1))
   unary_sound at unary.Complement e f sound none =
       let b = breaks_none env s (Expr-F.Unary at unary.Complement e) none in
       gated (Some (denotes.Value ty.Int)) (list_all is_made (f ∷ [])) (unary_folded unary.Complement f) (λ made.
-      let t = value_sound e f sound b.below (and_l (is_made f) (list_all is_made []) made) in
+      let t = value_sound e f sound b.below (first_so (is_made f) (list_all is_made []) made) in
       (AnInt, refl, (sign_fits f (subst (FoldFits f) (int_of t.0 (wanted is_int e t.0 t.1 b.rule_11)) t.2)).2))
   unary_sound at unary.Not e f sound none =
       let b = breaks_none env s (Expr-F.Unary at unary.Not e) none in
       gated (Some (denotes.Value ty.Bool)) (list_all is_made (f ∷ [])) (unary_folded unary.Not f) (λ made.
-      let t = value_sound e f sound b.below (and_l (is_made f) (list_all is_made []) made) in
+      let t = value_sound e f sound b.below (first_so (is_made f) (list_all is_made []) made) in
       (ABool, refl, not_fits f (subst (FoldFits f) (bool_of t.0 (wanted is_boolean e t.0 t.1 b.rule_11)) t.2)))
 
   module _ (l r : Attr) (f g : Folded) where
-    abbrev Operands : Type 0
+    abbrev pub Operands : Type 0
     Operands = Typed l.denotes f × Typed r.denotes g
 
-    operands : Sound l f → Sound r g → value_faults l ++ value_faults r ≡ [] → list_all is_made (f ∷ g ∷ []) ≡ true → Operands
+    pub operands : Sound l f → Sound r g → value_faults l ++ value_faults r ≡ [] → list_all is_made (f ∷ g ∷ []) ≡ true → Operands
     operands sound_l sound_r none made =
         let parts = empty_parts (value_faults l) (value_faults r) none in
-        let more = and_r (is_made f) (list_all is_made (g ∷ [])) made in
-        (value_sound l f sound_l parts.0 (and_l (is_made f) (list_all is_made (g ∷ [])) made), value_sound r g sound_r parts.1 (and_l (is_made g) (list_all is_made []) more))
+        let more = second_so (is_made f) (list_all is_made (g ∷ [])) made in
+        (value_sound l f sound_l parts.0 (first_so (is_made f) (list_all is_made (g ∷ [])) made), value_sound r g sound_r parts.1 (first_so (is_made g) (list_all is_made []) more))
 
     both_ints : (t : Operands) → both_11 is_int l r ≡ [] → (t.0.0 ≡ AnInt) × (t.1.0 ≡ AnInt)
     both_ints t none =
@@ -298,7 +263,7 @@ module _ (env : Environment) (s : Scope) (classes : List CoreClass) (agree : (c 
         let parts = empty_parts (wants is_boolean l) (wants is_boolean r) none in
         (bool_of t.0.0 (wanted is_boolean l t.0.0 t.0.1 parts.0), bool_of t.1.0 (wanted is_boolean r t.1.0 t.1.1 parts.1))
 
-    ints_folded : (op : BinaryOp) (k : Kind) → ((m n : ℤ) → FoldFits (int_value op m n) k) → (t : Operands) → both_11 is_int l r ≡ [] → FoldFits (strict_folded op f g) k
+    ints_folded : (op : BinaryOp) (k : Kind) → ((m n : ℤ) → FoldFits (binary_value op (scalar.Int m) (scalar.Int n)) k) → (t : Operands) → both_11 is_int l r ≡ [] → FoldFits (strict_folded op f g) k
     ints_folded op k each t none =
         let is = both_ints t none in
         strict_fits op f g AnInt AnInt k (subst (FoldFits f) is.0 t.0.2) (subst (FoldFits g) is.1 t.1.2) (ints_fit op k each)
@@ -326,12 +291,12 @@ module _ (env : Environment) (s : Scope) (classes : List CoreClass) (agree : (c 
         ∙ ap (λ x. if is_int (kind_type a) then is_int (kind_type b) else (if is_boolean (kind_type a) then x else (is_int (kind_type b) || x))) (sym (bool_test b))
         ∙ second)
 
-    bits_values : (op : BinaryOp) (a b : Kind) → Bits a b → ((m n : ℤ) → FoldFits (int_value op m n) AnInt) → ((m n : Bool) → FoldFits (bool_value op m n) ABool) → (v w : Literal) → Fits v a → Fits w b → FoldFits (binary_value op v w) (bits_kind a)
+    bits_values : (op : BinaryOp) (a b : Kind) → Bits a b → ((m n : ℤ) → FoldFits (binary_value op (scalar.Int m) (scalar.Int n)) AnInt) → ((m n : Bool) → FoldFits (binary_value op (scalar.Bool m) (scalar.Bool n)) ABool) → (v w : Scalar) → Fits v a → Fits w b → FoldFits (binary_value op v w) (bits_kind a)
     bits_values op AnInt AnInt ok ints bools v w x y = ints_fit op AnInt ints v w x y
     bits_values op ABool ABool ok ints bools v w x y = bools_fit op ABool bools v w x y
     bits_values op _ _ ok ints bools v w x y = absurd ok
 
-    bits_typed : (op : BinaryOp) → ((m n : ℤ) → FoldFits (int_value op m n) AnInt) → ((m n : Bool) → FoldFits (bool_value op m n) ABool) → (t : Operands) → bitwise_11 l r ≡ [] → Typed (value (bitwise_type (value_type l.denotes))) (strict_folded op f g)
+    bits_typed : (op : BinaryOp) → ((m n : ℤ) → FoldFits (binary_value op (scalar.Int m) (scalar.Int n)) AnInt) → ((m n : Bool) → FoldFits (binary_value op (scalar.Bool m) (scalar.Bool n)) ABool) → (t : Operands) → bitwise_11 l r ≡ [] → Typed (value (bitwise_type (value_type l.denotes))) (strict_folded op f g)
     bits_typed op ints bools t none =
         (bits_kind t.0.0, bits_said t, strict_fits op f g t.0.0 t.1.0 (bits_kind t.0.0) t.0.2 t.1.2 (bits_values op t.0.0 t.1.0 (bits_operands t none) ints bools))
 
@@ -358,7 +323,7 @@ module _ (env : Environment) (s : Scope) (classes : List CoreClass) (agree : (c 
     sum_said : (t : Operands) → result binary.Add ≡ Some (denotes.Value (kind_type (sum_kind t.0.0 t.1.0)))
     sum_said t = ap (λ d. value (binary_type binary.Add (value_type d) (value_type r.denotes))) t.0.1 ∙ ap (λ d. value (binary_type binary.Add (Some (kind_type t.0.0)) (value_type d))) t.1.1 ∙ ap (λ u. Some (denotes.Value u)) (sum_types t.0.0 t.1.0)
 
-    sum_operands : (t : Operands) → sum_11 l r ≡ [] → (text_kind t.0.0 || text_kind t.1.0) ≡ false → (t.0.0 ≡ AnInt) × (t.1.0 ≡ AnInt)
+    pub sum_operands : (t : Operands) → sum_11 l r ≡ [] → (text_kind t.0.0 || text_kind t.1.0) ≡ false → (t.0.0 ≡ AnInt) × (t.1.0 ≡ AnInt)
     sum_operands t none no_text =
         let a = t.0.0 in
         let b = t.1.0 in
@@ -400,21 +365,21 @@ module _ (env : Environment) (s : Scope) (classes : List CoreClass) (agree : (c 
       let below = empty_parts (value_faults c) (value_faults a ++ value_faults b) none_of.below in
       let below_both = empty_parts (value_faults a) (value_faults b) below.1 in
       let here = empty_parts (wants is_boolean c) (of_types (λ t u. unless (rules.is_either_way env.symbols t u) b.at) a b) none_of.rule_11 in
-      gated (value (choice_type env (value_type a.denotes) (value_type b.denotes))) (list_all is_made (fc ∷ fa ∷ fb ∷ [])) (choice_folded fc fa fb) (λ made.
-      let made_rest = and_r (is_made fc) (list_all is_made (fa ∷ fb ∷ [])) made in
-      let made_last = and_r (is_made fa) (list_all is_made (fb ∷ [])) made_rest in
-      let t = value_sound c fc sound_c below.0 (and_l (is_made fc) (list_all is_made (fa ∷ fb ∷ [])) made) in
-      let u = value_sound a fa sound_a below_both.0 (and_l (is_made fa) (list_all is_made (fb ∷ [])) made_rest) in
-      let v = value_sound b fb sound_b below_both.1 (and_l (is_made fb) (list_all is_made []) made_last) in
+      gated (value (choice_type env.symbols (value_type a.denotes) (value_type b.denotes))) (list_all is_made (fc ∷ fa ∷ fb ∷ [])) (choice_folded fc fa fb) (λ made.
+      let made_rest = second_so (is_made fc) (list_all is_made (fa ∷ fb ∷ [])) made in
+      let made_last = second_so (is_made fa) (list_all is_made (fb ∷ [])) made_rest in
+      let t = value_sound c fc sound_c below.0 (first_so (is_made fc) (list_all is_made (fa ∷ fb ∷ [])) made) in
+      let u = value_sound a fa sound_a below_both.0 (first_so (is_made fa) (list_all is_made (fb ∷ [])) made_rest) in
+      let v = value_sound b fb sound_b below_both.1 (first_so (is_made fb) (list_all is_made []) made_last) in
       let either : rules.is_either_way env.symbols (kind_type u.0) (kind_type v.0) ≡ true = unless_empty _ b.at (asked (λ t u. unless (rules.is_either_way env.symbols t u) b.at) a b u.0 v.0 u.1 v.1 here.1) in
       chosen u.0 v.0 u.1 v.1 (subst (FoldFits fc) (bool_of t.0 (wanted is_boolean c t.0 t.1 here.0)) t.2) u.2 v.2 either
       (widens u.0 v.0) refl (sym (ap (λ x. x || rules.is_assignable env.symbols (kind_type v.0) (kind_type u.0)) (widens_test env.symbols classes agree u.0 v.0) ∙ ap (λ x. widens u.0 v.0 || x) (widens_test env.symbols classes agree v.0 u.0)) ∙ either))
     where
       said : (i j : Kind) → a.denotes ≡ Some (denotes.Value (kind_type i)) → b.denotes ≡ Some (denotes.Value (kind_type j)) → rules.is_either_way env.symbols (kind_type i) (kind_type j) ≡ true → (wider : Bool) → widens i j ≡ wider →
-          value (choice_type env (value_type a.denotes) (value_type b.denotes)) ≡ Some (denotes.Value (kind_type (if wider then j else i)))
+          value (choice_type env.symbols (value_type a.denotes) (value_type b.denotes)) ≡ Some (denotes.Value (kind_type (if wider then j else i)))
       said i j is_a is_b either wider is_wider =
-          ap (λ d. value (choice_type env (value_type d) (value_type b.denotes))) is_a
-          ∙ ap (λ d. value (choice_type env (Some (kind_type i)) (value_type d))) is_b
+          ap (λ d. value (choice_type env.symbols (value_type d) (value_type b.denotes))) is_a
+          ∙ ap (λ d. value (choice_type env.symbols (Some (kind_type i)) (value_type d))) is_b
           ∙ ap (λ x. value (if x then Some (rules.wider env.symbols (kind_type i) (kind_type j)) else None)) either
           ∙ ap (λ x. Some (denotes.Value (if x then kind_type j else kind_type i))) (widens_test env.symbols classes agree i j ∙ is_wider)
           ∙ ap (λ u. Some (denotes.Value u)) (joins wider)
@@ -424,7 +389,7 @@ module _ (env : Environment) (s : Scope) (classes : List CoreClass) (agree : (c 
           joins false = refl
 
       chosen : (i j : Kind) → a.denotes ≡ Some (denotes.Value (kind_type i)) → b.denotes ≡ Some (denotes.Value (kind_type j)) → FoldFits fc ABool → FoldFits fa i → FoldFits fb j → rules.is_either_way env.symbols (kind_type i) (kind_type j) ≡ true →
-          (wider : Bool) → widens i j ≡ wider → (widens i j || widens j i) ≡ true → Typed (value (choice_type env (value_type a.denotes) (value_type b.denotes))) (choice_folded fc fa fb)
+          (wider : Bool) → widens i j ≡ wider → (widens i j || widens j i) ≡ true → Typed (value (choice_type env.symbols (value_type a.denotes) (value_type b.denotes))) (choice_folded fc fa fb)
       chosen i j is_a is_b x y z either true is one = (j, said i j is_a is_b either true is, choice_fits fc fa fb j x (folded_widens i j fa is y) z)
       chosen i j is_a is_b x y z either false is one = (i, said i j is_a is_b either false is, choice_fits fc fa fb i x y (folded_widens j i fb (ap (λ w. w || widens j i) (sym is) ∙ one) z))
 
@@ -444,7 +409,7 @@ module _ (env : Environment) (s : Scope) (classes : List CoreClass) (agree : (c 
   paren_sound : (at : ℕ) (e : Attr) (f : Folded) → Sound e f → Sound (attr_at env s (Expr-F.Paren at e)) (folded_at env s (Expr-F.Paren at f))
   paren_sound at e f sound none =
       gated (value (value_type e.denotes)) (list_all is_made (f ∷ [])) f (λ made.
-      let t = value_sound e f sound (breaks_none env s (Expr-F.Paren at e) none).below (and_l (is_made f) (list_all is_made []) made) in
+      let t = value_sound e f sound (breaks_none env s (Expr-F.Paren at e) none).below (first_so (is_made f) (list_all is_made []) made) in
       (t.0, ap (λ d. value (value_type d)) t.1, t.2))
 
   field_sound : (o : Attr) (f : Ident) (fo : Folded) → Sound o fo → Sound (attr_at env s (Expr-F.Field o f)) (folded_at env s (Expr-F.Field fo f))
@@ -456,21 +421,13 @@ module _ (env : Environment) (s : Scope) (classes : List CoreClass) (agree : (c 
   node (Expr-F.Text at t) none = matches_of (Some (denotes.Value ty.Text)) (folded_at env s (Expr-F.Text at t)) (AText, refl, text_fits t)
   node (Expr-F.Bool at b) none = (ABool, refl, tt)
   node (Expr-F.Null at) none = (ANull, refl, tt)
-  node (Expr-F.This at) none = tt
   node (Expr-F.Name x) none = name_matches x
-  node (Expr-F.Call m xs) none = tt
   node (Expr-F.Paren at e) none = paren_sound at (attr env s e.0) (folded_of env s e.0) e.1 none
-  node (Expr-F.Super at m xs) none = tt
-  node (Expr-F.New at c xs) none = tt
-  node (Expr-F.NewArray at base e dimensions) none = tt
   node (Expr-F.Field o f) none = field_sound (attr env s o.0) f (folded_of env s o.0) o.1 none
-  node (Expr-F.Method o m xs) none = tt
-  node (Expr-F.Element a i) none = tt
   node (Expr-F.Unary at op e) none = unary_sound at op (attr env s e.0) (folded_of env s e.0) e.1 none
-  node (Expr-F.Cast at t e) none = tt
   node (Expr-F.Binary op l r) none = binary_sound (attr env s l.0) (attr env s r.0) (folded_of env s l.0) (folded_of env s r.0) op l.1 r.1 none
-  node (Expr-F.InstanceOf e t) none = tt
   node (Expr-F.Conditional c a b) none = conditional_sound (attr env s c.0) (attr env s a.0) (attr env s b.0) (folded_of env s c.0) (folded_of env s a.0) (folded_of env s b.0) c.1 a.1 b.1 none
+  node _ none = tt
 
   rolled : (x : Expr-F Expr) → Sound (attr_at env s (map-Expr Expr Attr (attr env s) x)) (folded_at env s (map-Expr Expr Folded (folded_of env s) x)) → IsDone (roll-Expr x)
   unfolding attr folded_of

@@ -1,10 +1,10 @@
+mod Found
 mod Types
-mod TypeFacts
-mod NoFaults
-mod Standing
+pub mod NoFaults
+pub mod Standing
 mod Parts
 mod Values
-mod Nodes
+pub mod Nodes
 mod Operators
 mod Arguments
 mod Names
@@ -35,15 +35,16 @@ mod FileLookups
 mod FileFields
 mod FieldRows
 mod FileMembers
-mod LiteralKinds
+pub mod LiteralKinds
 mod FoldedOperators
-mod FoldedNodes
+pub mod FoldedNodes
 mod FileConstants
 mod FileAgrees
 mod WholeLists
 mod WholeClasses
 mod WholeMembers
 mod WholeMain
+mod WholeContracts
 mod WholeFields
 mod WholeBuiltIn
 mod WholePicked

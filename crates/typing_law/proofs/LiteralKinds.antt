@@ -1,5 +1,5 @@
 -- The types that constants have, and the values of each.
-use Rattle.std.proofs.Common.{◌≡◌, ◌∙◌, ℕ, ℤ, Bool, true, false, ◌||◌, IsTrue, List, [], ◌∷◌, Some, refl, sym, ap, if◌then◌else◌}
+use Rattle.std.proofs.Common.{◌≡◌, ◌∙◌, ℕ, ℤ, Bool, true, false, ◌||◌, IsTrue, List, refl, ap}
 use Rattle.std.proofs.lemmas.Bool.{false≢true}
 use Rattle.core_tree.specs.declared.ty.Ty.{Ty}
 use Rattle.core_tree.specs.declared.ty.Ty.TheVariants as ty
@@ -10,13 +10,13 @@ use Rattle.core_tree.specs.Typing.{is_int_number}
 use Rattle.core_tree.proofs.TypeNodes.{is_assignable-Int, is_assignable-Bool, is_assignable-Text, is_assignable-Null}
 use Rattle.java_names.specs.declared.symbol.Symbols.{Symbols}
 use Rattle.java_names.specs.Lookups.{is_below}
-use Rattle.java_exprs.specs.Types as rules
-use Rattle.java_exprs.specs.declared.literal.Literal.{Literal}
-use Rattle.java_exprs.specs.declared.literal.Literal.TheVariants as literal
+use Rattle.java_denotes.specs.Types as rules
+use Rattle.primitive_operators.specs.declared.scalar.Scalar.{Scalar}
+use Rattle.primitive_operators.specs.declared.scalar.Scalar.TheVariants as scalar
 use Rattle.java_exprs.specs.declared.folded.Folded.{Folded}
 use Rattle.java_exprs.specs.declared.folded.Folded.TheVariants as folded
 use Rattle.typing_law.proofs.Types.{same_assignable}
-use Rattle.typing_law.proofs.TypeFacts as facts
+use Rattle.core_tree.proofs.TypeFacts as facts
 
 pub data Kind : Type 0 where
   AnInt : Kind
@@ -85,9 +85,7 @@ object_test ANull = facts.is_object-Null
 
 null_widens : (k : Kind) → ((null_kind k || text_kind k) || false) ≡ (null_kind k || text_kind k)
 null_widens AnInt = refl
-null_widens ABool = refl
-null_widens AText = refl
-null_widens ANull = refl
+null_widens _ = refl
 
 core_widens : (classes : List Class) (a b : Kind) → core.is_assignable classes (kind_type a) (kind_type b) ≡ widens a b
 core_widens classes AnInt b = ap (λ f. f (kind_type b)) (is_assignable-Int classes) ∙ int_test b
@@ -106,68 +104,49 @@ widens_test s classes agree a b = same_assignable s classes agree (kind_type a) 
 -- ---- values
 
 -- a value of the kind; null is a String
-abbrev pub Fits : Literal → Kind → Type 0
-Fits (literal.Int n) AnInt = IsTrue (is_int_number n)
-Fits (literal.Bool b) ABool = Unit {0}
-Fits (literal.Text t) AText = Unit {0}
-Fits literal.Null AText = Unit {0}
-Fits literal.Null ANull = Unit {0}
+abbrev pub Fits : Scalar → Kind → Type 0
+Fits (scalar.Int n) AnInt = IsTrue (is_int_number n)
+Fits (scalar.Bool b) ABool = Unit {0}
+Fits (scalar.Text t) AText = Unit {0}
+Fits scalar.Null AText = Unit {0}
+Fits scalar.Null ANull = Unit {0}
 Fits _ _ = ⊥
 
 -- an evaluation gives such a value, or none
 abbrev pub FoldFits : Folded → Kind → Type 0
 FoldFits (folded.Gives v) k = Fits v k
 FoldFits folded.Fails k = Unit {0}
-FoldFits folded.Unknown k = ⊥
-FoldFits (folded.Class c) k = ⊥
-FoldFits folded.Other k = ⊥
+FoldFits _ k = ⊥
 
-pub int_elim : (P : Literal → Type 0) → ((n : ℤ) → IsTrue (is_int_number n) → P (literal.Int n)) → (v : Literal) → Fits v AnInt → P v
-int_elim P int (literal.Int n) x = int n x
-int_elim P int (literal.Bool b) x = absurd x
-int_elim P int (literal.Text t) x = absurd x
-int_elim P int literal.Null x = absurd x
+pub int_elim : (P : Scalar → Type 0) → ((n : ℤ) → IsTrue (is_int_number n) → P (scalar.Int n)) → (v : Scalar) → Fits v AnInt → P v
+int_elim P int (scalar.Int n) x = int n x
+int_elim P int _ x = absurd x
 
-pub bool_elim : (P : Literal → Type 0) → ((b : Bool) → P (literal.Bool b)) → (v : Literal) → Fits v ABool → P v
-bool_elim P bool (literal.Int n) x = absurd x
-bool_elim P bool (literal.Bool b) x = bool b
-bool_elim P bool (literal.Text t) x = absurd x
-bool_elim P bool literal.Null x = absurd x
+pub bool_elim : (P : Scalar → Type 0) → ((b : Bool) → P (scalar.Bool b)) → (v : Scalar) → Fits v ABool → P v
+bool_elim P bool (scalar.Bool b) x = bool b
+bool_elim P bool _ x = absurd x
 
-pub text_elim : (P : Literal → Type 0) → ((t : List ℕ) → P (literal.Text t)) → P literal.Null → (v : Literal) → Fits v AText → P v
-text_elim P text null (literal.Int n) x = absurd x
-text_elim P text null (literal.Bool b) x = absurd x
-text_elim P text null (literal.Text t) x = text t
-text_elim P text null literal.Null x = null
+pub text_elim : (P : Scalar → Type 0) → ((t : List ℕ) → P (scalar.Text t)) → P scalar.Null → (v : Scalar) → Fits v AText → P v
+text_elim P text null (scalar.Text t) x = text t
+text_elim P text null scalar.Null x = null
+text_elim P text null _ x = absurd x
 
-pub null_elim : (P : Literal → Type 0) → P literal.Null → (v : Literal) → Fits v ANull → P v
-null_elim P null (literal.Int n) x = absurd x
-null_elim P null (literal.Bool b) x = absurd x
-null_elim P null (literal.Text t) x = absurd x
-null_elim P null literal.Null x = null
+pub null_elim : (P : Scalar → Type 0) → P scalar.Null → (v : Scalar) → Fits v ANull → P v
+null_elim P null scalar.Null x = null
+null_elim P null _ x = absurd x
 
 -- a value is one of each wider kind
-pub value_widens : (a b : Kind) (v : Literal) → widens a b ≡ true → Fits v a → Fits v b
+pub value_widens : (a b : Kind) (v : Scalar) → widens a b ≡ true → Fits v a → Fits v b
 value_widens AnInt AnInt v wider x = x
-value_widens AnInt ABool v wider x = absurd (false≢true wider)
 value_widens AnInt AText v wider x = absurd (false≢true wider)
-value_widens AnInt ANull v wider x = absurd (false≢true wider)
-value_widens ABool AnInt v wider x = absurd (false≢true wider)
 value_widens ABool ABool v wider x = x
 value_widens ABool AText v wider x = absurd (false≢true wider)
-value_widens ABool ANull v wider x = absurd (false≢true wider)
-value_widens AText AnInt v wider x = absurd (false≢true wider)
-value_widens AText ABool v wider x = absurd (false≢true wider)
 value_widens AText AText v wider x = x
-value_widens AText ANull v wider x = absurd (false≢true wider)
-value_widens ANull AnInt v wider x = absurd (false≢true wider)
-value_widens ANull ABool v wider x = absurd (false≢true wider)
 value_widens ANull AText v wider x = null_elim (λ v. Fits v AText) tt v x
 value_widens ANull ANull v wider x = x
+value_widens _ _ v wider x = absurd (false≢true wider)
 
 pub folded_widens : (a b : Kind) (f : Folded) → widens a b ≡ true → FoldFits f a → FoldFits f b
 folded_widens a b (folded.Gives v) wider x = value_widens a b v wider x
 folded_widens a b folded.Fails wider x = tt
-folded_widens a b folded.Unknown wider x = absurd x
-folded_widens a b (folded.Class c) wider x = absurd x
-folded_widens a b folded.Other wider x = absurd x
+folded_widens a b _ wider x = absurd x

@@ -13,13 +13,13 @@ use Rattle.class_table.specs.Names.{Name}
 use Rattle.class_table.specs.Members.{makers_in, maker_row}
 use Rattle.java_names.specs.declared.numbers.Numbers.{Numbers}
 use Rattle.java_names.specs.declared.symbol.MakerSymbol.{MakerSymbol}
-use Rattle.java_names.specs.BuiltIn.{is_built_in}
+use Rattle.core_tree.specs.BuiltIn.{is_built_in}
 use Rattle.java_names.specs.Numbers.{made_for, numbers_after}
 use Rattle.java_names.specs.Symbols.{maker_symbol, maker_symbols, maker_arities, following}
 use Rattle.java_names.specs.Types.{declared_type, declared_types}
 use Rattle.class_table.specs.declared.row.ClassRow.{ClassRow}
 use Rattle.java_exprs.specs.declared.environment.Environment.{Environment}
-use Rattle.java_types.specs.Files.{own_maker, of_members, of_made, is_maker, where_none}
+use Rattle.java_members.specs.Files.{own_maker, of_members, of_made, is_maker, where_none}
 use Rattle.std.proofs.lemmas.List.{length-map, length-append, append_assoc}
 use Rattle.core_tree.specs.WellTyped.{is_value}
 use Rattle.java_syntax.specs.declared.class.ClassTree.{ClassTree}
@@ -36,26 +36,25 @@ use Rattle.java_names.specs.Selectors.{selectors_of}
 use Rattle.java_names.specs.Symbols.{class_symbol, makers_of, written_makers, made_makers, names_of, symbols_of}
 use Rattle.java_names.specs.Symbols as symbol_specs
 use Rattle.java_names.specs.declared.symbol.Makers.{Makers}
-use Rattle.java_exprs.specs.declared.literal.Literal.{Literal}
+use Rattle.primitive_operators.specs.declared.scalar.Scalar.{Scalar}
 use Rattle.java_exprs.specs.Lookups.{maker_of}
-use Rattle.java_types.specs.Bodies.{made_maker}
-use Rattle.java_types.specs.Declarations.{declaration_faults}
+use Rattle.java_members.specs.Bodies.{made_maker}
+use Rattle.java_members.specs.Declarations.{declaration_faults}
 use Rattle.typing_law.specs.Agrees.{AgreesOnMaker}
 use Rattle.typing_law.proofs.Tables.{row_at, numbers_at, env_with, program_with, class_symbol_at}
 use Rattle.typing_law.proofs.Numbered.{get_behind, not_built_in}
-use Rattle.class_table.specs.BuiltIn.{built_in, exception_makers, string_type, object, throwable, exception}
+use Rattle.class_table.specs.BuiltIn.{built_in, declaration_of, exception_makers, string_type}
 use Rattle.class_table.specs.BuiltIn as classes
 use Rattle.core_tree.proofs.TypeNodes.{is_value_type-Text}
 use Rattle.typing_law.proofs.FileMakers.{shifted, maker_lengths, arity_of, found_by, written_found, written_agrees}
+use Rattle.typing_law.proofs.Found.{too_great}
 
 -- ---- constructors that are made
 
 some_or_none : (members : List Member) → ((flat_map is_maker members ≡ []) × (makers_in members ≡ [])) ⊎ ((y : Member) × (ys : List Member) × (z : MakerRow) × (zs : List MakerRow) × (flat_map is_maker members ≡ y ∷ ys) × (makers_in members ≡ z ∷ zs))
 some_or_none [] = inl (refl, refl)
-some_or_none (member.Field f ∷ more) = some_or_none more
-some_or_none (member.Method m ∷ more) = some_or_none more
 some_or_none (member.Maker m ∷ more) = inr (member.Maker m, flat_map is_maker more, maker_row m, makers_in more, refl, refl)
-some_or_none (member.Empty ∷ more) = some_or_none more
+some_or_none (_ ∷ more) = some_or_none more
 
 no_cons : {X : Type 0} (x : X) (xs : List X) → ◌≡◌ {A = List X} (x ∷ xs) [] → ⊥
 no_cons x xs e = cc
@@ -130,30 +129,11 @@ made_there env ks c row least is empty =
 
 -- ---- built-in classes
 
-too_great : (c : ℕ) {Q : Type 0} → suc (suc (suc (suc (suc (suc (suc (suc (suc (suc (suc (suc (suc (suc (suc (suc (suc (suc c))))))))))))))))) < 18 → Q
-too_great c below = absurd (omega arith)
-
 built_makers : (ks : List ClassTree) (c : ℕ) (d : Declaration) → c < 18 → slice_get (declared_of ks) c ≡ Some d → ((d.makers ≡ classes.maker_of [] ∷ []) × (c ≡ 0)) ⊎ ((d.makers ≡ exception_makers) × ((c == 0) ≡ false))
 unfolding declared_of built_in
 built_makers ks zero d below is = inl (ap (λ d. d.makers) (sym (same_Some _ d is)), refl)
-built_makers ks (suc zero) d below is = inr (ap (λ d. d.makers) (sym (same_Some _ d is)), refl)
-built_makers ks (suc (suc zero)) d below is = inr (ap (λ d. d.makers) (sym (same_Some _ d is)), refl)
-built_makers ks (suc (suc (suc zero))) d below is = inr (ap (λ d. d.makers) (sym (same_Some _ d is)), refl)
-built_makers ks (suc (suc (suc (suc zero)))) d below is = inr (ap (λ d. d.makers) (sym (same_Some _ d is)), refl)
-built_makers ks (suc (suc (suc (suc (suc zero))))) d below is = inr (ap (λ d. d.makers) (sym (same_Some _ d is)), refl)
-built_makers ks (suc (suc (suc (suc (suc (suc zero)))))) d below is = inr (ap (λ d. d.makers) (sym (same_Some _ d is)), refl)
-built_makers ks (suc (suc (suc (suc (suc (suc (suc zero))))))) d below is = inr (ap (λ d. d.makers) (sym (same_Some _ d is)), refl)
-built_makers ks (suc (suc (suc (suc (suc (suc (suc (suc zero)))))))) d below is = inr (ap (λ d. d.makers) (sym (same_Some _ d is)), refl)
-built_makers ks (suc (suc (suc (suc (suc (suc (suc (suc (suc zero))))))))) d below is = inr (ap (λ d. d.makers) (sym (same_Some _ d is)), refl)
-built_makers ks (suc (suc (suc (suc (suc (suc (suc (suc (suc (suc zero)))))))))) d below is = inr (ap (λ d. d.makers) (sym (same_Some _ d is)), refl)
-built_makers ks (suc (suc (suc (suc (suc (suc (suc (suc (suc (suc (suc zero))))))))))) d below is = inr (ap (λ d. d.makers) (sym (same_Some _ d is)), refl)
-built_makers ks (suc (suc (suc (suc (suc (suc (suc (suc (suc (suc (suc (suc zero)))))))))))) d below is = inr (ap (λ d. d.makers) (sym (same_Some _ d is)), refl)
-built_makers ks (suc (suc (suc (suc (suc (suc (suc (suc (suc (suc (suc (suc (suc zero))))))))))))) d below is = inr (ap (λ d. d.makers) (sym (same_Some _ d is)), refl)
-built_makers ks (suc (suc (suc (suc (suc (suc (suc (suc (suc (suc (suc (suc (suc (suc zero)))))))))))))) d below is = inr (ap (λ d. d.makers) (sym (same_Some _ d is)), refl)
-built_makers ks (suc (suc (suc (suc (suc (suc (suc (suc (suc (suc (suc (suc (suc (suc (suc zero))))))))))))))) d below is = inr (ap (λ d. d.makers) (sym (same_Some _ d is)), refl)
-built_makers ks (suc (suc (suc (suc (suc (suc (suc (suc (suc (suc (suc (suc (suc (suc (suc (suc zero)))))))))))))))) d below is = inr (ap (λ d. d.makers) (sym (same_Some _ d is)), refl)
-built_makers ks (suc (suc (suc (suc (suc (suc (suc (suc (suc (suc (suc (suc (suc (suc (suc (suc (suc zero))))))))))))))))) d below is = inr (ap (λ d. d.makers) (sym (same_Some _ d is)), refl)
 built_makers ks (suc (suc (suc (suc (suc (suc (suc (suc (suc (suc (suc (suc (suc (suc (suc (suc (suc (suc c)))))))))))))))))) d below is = too_great c below
+built_makers ks _ d below is = inr (ap (λ d. d.makers) (sym (same_Some _ d is)), refl)
 
 -- a constructor of a built-in class has no parameter, or the message
 object_params : (n : ℕ) (y : MakerRow) → slice_get (classes.maker_of [] ∷ []) n ≡ Some y → y.params ≡ []
@@ -168,7 +148,7 @@ exception_params (suc (suc n)) y is = absurd (none-some y is)
 string_declared : (names : List Name) → declared_types names (string_type ∷ []) ≡ ty.Text ∷ []
 string_declared names = refl
 
-module _ (tree : FileTree) (constants : List (ℕ × Option Literal)) (none : of_members (declaration_faults (env_with (table_of tree) tree [])) 18 tree.classes ≡ []) where
+module _ (tree : FileTree) (constants : List (ℕ × Option Scalar)) (none : of_members (declaration_faults (env_with (table_of tree) tree [])) 18 tree.classes ≡ []) where
   abbrev table : ClassTable
   table = table_of tree
 

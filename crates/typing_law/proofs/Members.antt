@@ -1,14 +1,15 @@
 -- Methods, constructors and initialisers of fields that break no rule are well typed (JLS 8.3.2, 8.4.7, 8.8.7).
-use Rattle.std.proofs.Common.{◌≡◌, ◌∙◌, ⊎_elim, ◌⊎◌, ℕ, suc, Bool, true, false, not, ◌||◌, ◌&&◌, ◌==◌, IsTrue, List, [], ◌∷◌, ◌++◌, length, map, drop, Option, Some, None, option_map, is_some, slice_get, refl, subst, sym, ap, arith, if◌then◌else◌}
+use Rattle.std.proofs.Common.{◌≡◌, ◌∙◌, ⊎_elim, ◌⊎◌, ℕ, suc, Bool, true, false, not, ◌||◌, ◌&&◌, ◌==◌, IsTrue, List, [], ◌∷◌, ◌++◌, length, map, drop, Option, Some, None, option_map, is_some, slice_get, refl, subst, sym, ap, if◌then◌else◌}
 use Rattle.std.specs.Prelude.{nat_eq}
 use Rattle.std.specs.Option.{option_map_or}
 use Rattle.std.specs.List.{list_all, flat_map}
 use Rattle.std.specs.Cmp.Lexicographic.{pointwise}
 use Rattle.std.proofs.lemmas.Option.{none-some}
-use Rattle.std.proofs.lemmas.Bool.{false≢true, or_left, or_right, and_from, eq-eqb}
+use Rattle.std.proofs.lemmas.Bool.{or_left, or_right, and_from, eq-eqb}
 use Rattle.std.proofs.lemmas.Cmp.{nat_list_eq_equiv}
 use Rattle.std.proofs.lemmas.List.{length-map}
 use Rattle.std.proofs.Math.Seq.{drop-append_seam}
+use Rattle.std.specs.Cmp.{first_so}
 use Rattle.core_tree.specs.declared.ty.Ty.{Ty}
 use Rattle.core_tree.specs.declared.ty.Ty.TheVariants as ty
 use Rattle.core_tree.specs.declared.stmt.Stmt.{Stmt as Step}
@@ -19,17 +20,17 @@ use Rattle.core_tree.specs.Types.{is_void}
 use Rattle.core_tree.specs.Typing.{Scope as CoreScope, fits, all_fit, all_of, type_of, is_typed_stmt, is_typed_body}
 use Rattle.core_tree.specs.WellTyped.{is_value, is_of_file, superclass, is_numbered, is_method, is_maker, is_parent, numbers_from, declared_numbers, all_declared, initialiser_scope}
 use Rattle.core_tree.specs.WellTyped as typed
-use Rattle.java_syntax.specs.declared.name.TypeTree.{TypeTree}
+use Rattle.token_reading.specs.declared.name.TypeTree.{TypeTree}
 use Rattle.java_syntax.specs.declared.expression.Expr.{Expr}
 use Rattle.java_syntax.specs.declared.statement.Stmt.{Stmt}
-use Rattle.java_syntax.specs.declared.class.ParamTree.{ParamTree}
+use Rattle.token_reading.specs.declared.name.ParamTree.{ParamTree}
 use Rattle.java_syntax.specs.declared.class.FieldTree.{FieldTree}
 use Rattle.java_syntax.specs.declared.class.MethodTree.{MethodTree}
 use Rattle.java_syntax.specs.declared.class.MakerTree.{MakerTree}
 use Rattle.class_table.specs.Members.{is_static, types_of}
 use Rattle.java_names.specs.declared.scope.Scope.{Scope}
 use Rattle.java_names.specs.declared.symbol.MakerSymbol.{MakerSymbol}
-use Rattle.java_names.specs.Scope.{first_scope}
+use Rattle.java_names.specs.Scope.{first_scope, method_scope, maker_scope}
 use Rattle.java_names.specs.Types.{declared_type, declared_types, answer_type}
 use Rattle.java_exprs.specs.declared.environment.Environment.{Environment}
 use Rattle.java_exprs.specs.Attr.{Attr, of_rule, value_faults, values_faults}
@@ -38,14 +39,14 @@ use Rattle.java_exprs.specs.Resolved.{cores, first_core}
 use Rattle.java_exprs.specs.Rules.{wants_type, wants_each}
 use Rattle.java_exprs.specs.Checks.{attr}
 use Rattle.java_statements.specs.Statements.{effect, again_10}
-use Rattle.java_types.specs.Declarations.{with_param, with_params, params_10, answer_10, method_scope, maker_scope}
-use Rattle.java_types.specs.Bodies.{start_faults, field_faults, core_field, body_effects, method_effects, core_method, parent_11, parent_12, parent_13, parent_faults, parent_faults_of, built_in_parent, core_parent_of, core_parent, beginning, params_scope, given_of, maker_effects, maker_faults, core_maker, made_maker}
+use Rattle.java_members.specs.Declarations.{with_param, with_params, params_10, answer_10}
+use Rattle.java_members.specs.Bodies.{start_faults, field_faults, core_field, body_effects, method_effects, core_method, parent_11, parent_12, parent_13, parent_faults, parent_faults_of, built_in_parent, core_parent_of, core_parent, params_scope, given_of, maker_effects, maker_faults, core_maker, made_maker}
+use Rattle.java_names.specs.Beginnings.{beginning}
 use Rattle.typing_law.specs.Agrees.{Agrees, AgreesOnMaker, IsOfFile}
 use Rattle.typing_law.specs.Scopes.{IsKnown, GoesTo, FitsBody}
-use Rattle.typing_law.proofs.TypeFacts as facts
+use Rattle.core_tree.proofs.TypeFacts as facts
 use Rattle.typing_law.proofs.NoFaults.{empty_parts, empty_rule, unless_empty}
 use Rattle.typing_law.proofs.Values.{value_not_void}
-use Rattle.typing_law.proofs.Standing.{and_l}
 use Rattle.typing_law.proofs.Parts.{value_part}
 use Rattle.typing_law.proofs.Arguments.{AllHold, arguments_fit, fits_wanted}
 use Rattle.typing_law.proofs.Spelled.{declared_value}
@@ -53,6 +54,7 @@ use Rattle.typing_law.proofs.Exprs.{expr_right}
 use Rattle.typing_law.proofs.Scopes.{goes_nowhere, goes_on, goes_declared, fits_before, fits_after, scope_agrees}
 use Rattle.typing_law.proofs.Statements.{sequence_right}
 use Rattle.typing_law.proofs.Stmts.{stmts_right}
+use Rattle.typing_law.proofs.Found.{some_of, no_length}
 
 -- ---- lists
 
@@ -96,7 +98,7 @@ module _ (env : Environment) (p : Program) (agrees : Agrees env p) where
     answer : cs.answer ≡ s.answer
     locals : cs.locals ≡ all
 
-  -- a body behind its parameters, which begins in the scope s
+  -- a body after its parameters, which begins in the scope s
   record BodyIsRight (s : Scope) (params : List ParamTree) (body : List Stmt) : Type 0 where
     known : IsKnown env p (with_params env params s)
     values : IsTrue (list_all (is_value p) (types_in params))
@@ -142,11 +144,11 @@ module _ (env : Environment) (p : Program) (agrees : Agrees env p) where
   answer_value None none = or_right (is_value p ty.Void) (is_void ty.Void) facts.is_void-Void
   answer_value (Some t) none = or_left (is_value p (declared_type env.symbols.names t)) (is_void (declared_type env.symbols.names t)) (declared_value env p agrees.class t none)
 
-  pub method_right : (c : ℕ) (m : MethodTree) → IsOfFile env p c → answer_10 env m.answer ≡ [] → params_10 env m.params (method_scope env c m) ≡ [] → (method_effects env c m).faults ≡ [] → IsTrue (is_method p (core_method env c m))
+  pub method_right : (c : ℕ) (m : MethodTree) → IsOfFile env p c → answer_10 env m.answer ≡ [] → params_10 env m.params (method_scope env.symbols c m) ≡ [] → (method_effects env c m).faults ≡ [] → IsTrue (is_method p (core_method env c m))
   method_right c m of_file none_answer none_params none =
       let it = core_method env c m in
-      let right = body_right (method_scope env c m) m.params m.body (first_known c (is_static m.mods) (answer_type env.symbols.names m.answer) of_file) refl refl none_params none in
-      let scope : IsBodyScope (method_scope env c m) (it.params ++ it.locals) (typed.method_scope it) = record { this = λ instance. ap (λ b. if not b then Some c else None) instance; answer = refl; locals = refl } in
+      let right = body_right (method_scope env.symbols c m) m.params m.body (first_known c (is_static m.mods) (answer_type env.symbols.names m.answer) of_file) refl refl none_params none in
+      let scope : IsBodyScope (method_scope env.symbols c m) (it.params ++ it.locals) (typed.method_scope it) = record { this = λ instance. ap (λ b. if not b then Some c else None) instance; answer = refl; locals = refl } in
       and_from (is_of_file p c) (list_all (is_value p) it.params && (list_all (is_value p) it.locals && ((is_value p it.answer || is_void it.answer) && (is_numbered it.params it.locals it.body && is_typed_body p (typed.method_scope it) it.body)))) of_file.of_file
       (and_from (list_all (is_value p) it.params) (list_all (is_value p) it.locals && ((is_value p it.answer || is_void it.answer) && (is_numbered it.params it.locals it.body && is_typed_body p (typed.method_scope it) it.body))) right.values
       (and_from (list_all (is_value p) it.locals) ((is_value p it.answer || is_void it.answer) && (is_numbered it.params it.locals it.body && is_typed_body p (typed.method_scope it) it.body)) right.local_values
@@ -167,11 +169,8 @@ module _ (env : Environment) (p : Program) (agrees : Agrees env p) where
             (λ text. one xs (subst (λ ts. IsTrue (all_fit p ts (type_of p cs x.core ∷ map (type_of p cs) (cores xs)))) text.0 fit))
             either
           where
-            no_length : (n : ℕ) → ◌≡◌ {A = ℕ} 0 (suc n) → ⊥
-            no_length n e = omega arith
-
             one : (xs : List Attr) → IsTrue (fits p ty.Text (type_of p cs x.core) && all_fit p [] (map (type_of p cs) (cores xs))) → IsTrue (fits p ty.Text (type_of p cs x.core))
-            one xs both = and_l (fits p ty.Text (type_of p cs x.core)) (all_fit p [] (map (type_of p cs) (cores xs))) both
+            one xs both = first_so (fits p ty.Text (type_of p cs x.core)) (all_fit p [] (map (type_of p cs) (cores xs))) both
 
         cases : (object : Bool) → (b == 0) ≡ object → IsTrue (is_parent p cs b (if object then parent.Plain else parent.Message (first_core given)))
         cases true is = is
@@ -188,10 +187,6 @@ module _ (env : Environment) (p : Program) (agrees : Agrees env p) where
             ∙ and_from (maker.0.owner == b) (all_fit p maker.0.params (map (type_of p cs) (cores given))) (eq-eqb maker.0.owner b maker.3) (ap (λ ts. all_fit p ts (map (type_of p cs) (cores given))) maker.2 ∙ fit)
         cases None is = built_in_fits b given m.params (agree.built_in is).0 agree.same_arity fit (agree.built_in is).1
 
-    some_there : {X : Type 0} (found : Option X) → is_some found ≡ true → (x : X) × (found ≡ Some x)
-    some_there None is = absurd (false≢true is)
-    some_there (Some x) is = (x, refl)
-
     pub parent_right : (c at : ℕ) (given : List Attr) → IsOfFile env p c → AllHold p cs given → values_faults given ≡ [] → parent_faults env c at given ≡ [] → IsTrue (option_map_or (λ b. is_parent p cs b (core_parent env c given)) (superclass p c) false)
     parent_right c at given of_file hold below none =
         let b = of_file.superclass in
@@ -200,7 +195,7 @@ module _ (env : Environment) (p : Program) (agrees : Agrees env p) where
         let more = of_rule 12 (parent_12 maker at) (of_rule 13 (parent_13 c maker at) []) in
         let e11 = empty_rule 11 (parent_11 env given maker) more none_b in
         let e12 = empty_rule 12 (parent_12 maker at) (of_rule 13 (parent_13 c maker at) []) e11.1 in
-        let m = some_there maker (unless_empty (is_some maker) at e12.0) in
+        let m = some_of maker (unless_empty (is_some maker) at e12.0) in
         let agree = agrees.maker b.0 (length given) m.0 m.1 in
         let fit = arguments_fit env p agrees cs given m.0.params hold below (subst (λ found. option_map_or (λ m. wants_each env given m.params) found [] ≡ []) m.1 e11.0) agree.same_arity agree.params in
         ap (λ found. option_map_or (λ b. is_parent p cs b (core_parent env c given)) found false) (sym (agrees.superclass c) ∙ b.1)

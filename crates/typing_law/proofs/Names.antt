@@ -4,6 +4,7 @@ use Rattle.std.specs.Prelude.{option_and_then, is_none, unwrap_or}
 use Rattle.std.specs.Option.{option_map_or}
 use Rattle.std.proofs.lemmas.Option.{none-some}
 use Rattle.std.proofs.lemmas.Bool.{false≢true, or_cases, and_from}
+use Rattle.std.specs.Cmp.{first_so, second_so}
 use denote.Hole.Carrier.{out, shown, hidden}
 use Rattle.core_tree.specs.declared.ty.Ty.{Ty}
 use Rattle.core_tree.specs.declared.ty.Ty.TheVariants as ty
@@ -17,33 +18,36 @@ use Rattle.core_tree.specs.Types.{class_of, is_int, is_void}
 use Rattle.core_tree.specs.Typing.{Scope as CoreScope, all_fit, call_type, chosen_type, field_type, is_int_number, is_of_superclass, is_throwable, type_of, where_true}
 use Rattle.core_tree.specs.WellTyped.{is_value}
 use Rattle.core_tree.proofs.ExprNodes.{type_of-Int, type_of-Bool, type_of-Text, type_of-Null, type_of-This, type_of-Field, type_of-Static, type_of-Chosen, type_of-Super, type_of-Message}
-use Rattle.java_syntax.specs.declared.name.Ident.{Ident}
+use Rattle.token_reading.specs.declared.name.Ident.{Ident}
 use Rattle.java_names.specs.declared.scope.Scope.{Scope}
 use Rattle.java_names.specs.declared.symbol.FieldSymbol.{FieldSymbol}
 use Rattle.java_names.specs.declared.symbol.MethodSymbol.{MethodSymbol}
 use Rattle.java_exprs.specs.declared.environment.Environment.{Environment}
-use Rattle.java_exprs.specs.declared.literal.Literal.{Literal}
-use Rattle.java_exprs.specs.declared.literal.Literal.TheVariants as literal
-use Rattle.java_exprs.specs.declared.typed.Denotation.{Denotation}
-use Rattle.java_exprs.specs.declared.typed.Denotation.TheVariants as denotes
+use Rattle.primitive_operators.specs.declared.scalar.Scalar.{Scalar}
+use Rattle.primitive_operators.specs.declared.scalar.Scalar.TheVariants as scalar
+use Rattle.java_denotes.specs.declared.denotation.Denotation.{Denotation}
+use Rattle.java_denotes.specs.declared.denotation.Denotation.TheVariants as denotes
 use Rattle.java_exprs.specs.declared.typed.Form.{Form}
 use Rattle.java_exprs.specs.declared.typed.Form.TheVariants as form
-use Rattle.java_exprs.specs.declared.through.Through.{Through}
-use Rattle.java_exprs.specs.declared.through.Through.TheVariants as through
+use Rattle.java_denotes.specs.declared.through.Through.{Through}
+use Rattle.java_denotes.specs.declared.through.Through.TheVariants as through
 use Rattle.java_exprs.specs.Attr.{Attr, only_if, values_faults}
-use Rattle.java_exprs.specs.Members.{Naming, Calling, is_found, named_member}
-use Rattle.java_exprs.specs.Lookups.{superclass_of, member_of, method_of, has_method, constant_at, variable_denotes, answer_denotes}
-use Rattle.java_exprs.specs.Denotes.{member_denotes, member_form, call_denotes}
+use Rattle.java_exprs.specs.Members.{Naming, Calling}
+use Rattle.java_denotes.specs.Members.{is_found, named_member}
+use Rattle.java_exprs.specs.Lookups.{superclass_of, member_of, method_of, has_method, constant_at}
+use Rattle.java_denotes.specs.Lookups.{variable_denotes, answer_denotes}
+use Rattle.java_denotes.specs.Denotes.{member_denotes, call_denotes}
+use Rattle.java_exprs.specs.Denotes.{member_form}
 use Rattle.java_exprs.specs.Resolved.{cores, literal_core, member_core, instance_call, method_core, call_core, site_at}
 use Rattle.java_exprs.specs.Rules.{is_behind_class, needs_this, is_misplaced, naming_10, naming_11, naming_14, calling_10, calling_11, calling_12, calling_14, wants_each}
 use Rattle.typing_law.specs.Means.{HasType, Means, MeansForm, is_place}
 use Rattle.typing_law.specs.Agrees.{Agrees, AgreesOnField, AgreesOnStatic, AgreesOnMethod, AgreesOnSuper, AgreesOnScope, is_literal_of}
-use Rattle.typing_law.proofs.TypeFacts as facts
+use Rattle.core_tree.proofs.TypeFacts as facts
 use Rattle.typing_law.proofs.Values.{values_value, value_not_void}
 use Rattle.typing_law.proofs.NoFaults.{empty_parts, unless_empty, only_if_empty}
-use Rattle.typing_law.proofs.Standing.{and_l, and_r}
 use Rattle.typing_law.proofs.Nodes.{has_type, where_holds}
 use Rattle.typing_law.proofs.Arguments.{AllHold, arguments_fit}
+use Rattle.typing_law.proofs.Found.{some_of}
 
 -- ---- what is found
 
@@ -55,10 +59,6 @@ of_found test (Some y) x is = cases (test y) is
     cases : (b : Bool) → (if b then Some y else None) ≡ Some x → Some y ≡ Some x
     cases true is = is
     cases false is = absurd (none-some x is)
-
-some_there : {X : Type 0} (found : Option X) → is_some found ≡ true → (x : X) × (found ≡ Some x)
-some_there None is = absurd (false≢true is)
-some_there (Some x) is = (x, refl)
 
 there : {X : Type 0} (found : Option X) → is_none found ≡ false → (x : X) × (found ≡ Some x)
 there None is = absurd (false≢true (sym is))
@@ -82,12 +82,12 @@ place_element a i = refl
 
 module _ (p : Program) (s : CoreScope) where
   -- the value of a constant
-  pub literal_right : (v : Literal) (t : Ty) → IsTrue (is_literal_of v t) → IsTrue (is_value p t) → HasType p s (literal_core v) t
-  literal_right (literal.Int n) t is value =
-      has_type p s (core.Int n) t (type_of-Int p s n ∙ where_holds (is_int_number n) ty.Int (and_r (is_int t) (is_int_number n) is) ∙ ap Some (sym (facts.int_type t (and_l (is_int t) (is_int_number n) is)))) (values_value p t value)
-  literal_right (literal.Bool b) t is value = has_type p s (core.Bool b) t (type_of-Bool p s b ∙ ap Some (sym (facts.boolean_type t is))) (values_value p t value)
-  literal_right (literal.Text text) t is value = has_type p s (core.Text text) t (type_of-Text p s text ∙ ap Some (sym (facts.string_type t is))) (values_value p t value)
-  literal_right literal.Null t is value = record { actual = ty.Null; typed = type_of-Null p s; stands = inr (facts.string_type t is, refl); values = values_value p t value }
+  pub literal_right : (v : Scalar) (t : Ty) → IsTrue (is_literal_of v t) → IsTrue (is_value p t) → HasType p s (literal_core v) t
+  literal_right (scalar.Int n) t is value =
+      has_type p s (core.Int n) t (type_of-Int p s n ∙ where_holds (is_int_number n) ty.Int (second_so (is_int t) (is_int_number n) is) ∙ ap Some (sym (facts.int_type t (first_so (is_int t) (is_int_number n) is)))) (values_value p t value)
+  literal_right (scalar.Bool b) t is value = has_type p s (core.Bool b) t (type_of-Bool p s b ∙ ap Some (sym (facts.boolean_type t is))) (values_value p t value)
+  literal_right (scalar.Text text) t is value = has_type p s (core.Text text) t (type_of-Text p s text ∙ ap Some (sym (facts.string_type t is))) (values_value p t value)
+  literal_right scalar.Null t is value = record { actual = ty.Null; typed = type_of-Null p s; stands = inr (facts.string_type t is, refl); values = values_value p t value }
 
   -- a call's result
   pub answer_right : (e : Core) (t : Ty) → type_of p s e ≡ Some t → IsTrue (is_value p t || is_void t) → Means p s e (Some (answer_denotes t))
@@ -157,7 +157,7 @@ module _ (env : Environment) (p : Program) (agrees : Agrees env p) (s : Scope) (
           form = record { place = place_field object place; type = t; said = variable_said t value; typed = typed };
         }
 
-    constant_right : (m : FieldSymbol) → IsTrue (is_value p m.ty) → (v : Literal) × (constant_at env m.at ≡ Some v) × IsTrue (is_literal_of v m.ty) → NameIsRight (option_map_or literal_core (constant_at env m.at) core.Null) (variable_denotes m.ty) (form.Constant x.at)
+    constant_right : (m : FieldSymbol) → IsTrue (is_value p m.ty) → (v : Scalar) × (constant_at env m.at ≡ Some v) × IsTrue (is_literal_of v m.ty) → NameIsRight (option_map_or literal_core (constant_at env m.at) core.Null) (variable_denotes m.ty) (form.Constant x.at)
     constant_right m value v = record {
       means = subst (λ found. Means p cs (option_map_or literal_core found core.Null) (variable_denotes m.ty)) (sym v.1) (variable_right (literal_core v.0) m.ty value (literal_right p cs v.0 m.ty v.2 value));
       form = tt;
@@ -174,9 +174,9 @@ module _ (env : Environment) (p : Program) (agrees : Agrees env p) (s : Scope) (
         cases (Some place) is_place none_11 none_14 = field_right object c place m.ty (field_object th c object true is refl none_11 none_14) (agree.field place is_place) agree.value
 
     pub naming_right : (th : Through) (c : ℕ) (object : Core) → IsNamed th c object → naming_10 env (of_name th c object) ≡ [] → naming_11 env (of_name th c object) ≡ [] → naming_14 env s (of_name th c object) ≡ [] →
-        NameIsRight (member_core env (of_name th c object)) (member_denotes env (of_name th c object)) (member_form env (of_name th c object))
+        NameIsRight (member_core env (of_name th c object)) (member_denotes env.symbols (of_name th c object)) (member_form env (of_name th c object))
     naming_right th c object is none_10 none_11 none_14 =
-        let m = some_there (named_member env (of_name th c object)) (unless_empty (is_some (named_member env (of_name th c object))) x.at none_10) in
+        let m = some_of (named_member env.symbols (of_name th c object)) (unless_empty (is_some (named_member env.symbols (of_name th c object))) x.at none_10) in
         subst (λ found. NameIsRight (option_map_or (λ m. option_map_or (λ place. view.Field object place) m.place (option_map_or literal_core (constant_at env m.at) core.Null)) found core.Null)
         (option_and_then (λ m. variable_denotes m.ty) found) (option_map_or (λ m. if is_some m.place then form.Variable else form.Constant x.at) found form.Other)) (sym m.1)
         (found_right th c object m.0 is (agrees.field c x.name m.0 (of_found (is_found th) (member_of env c x.name) m.0 m.1))
@@ -253,7 +253,7 @@ module _ (env : Environment) (p : Program) (agrees : Agrees env p) (s : Scope) (
 
     pub calling_right : (th : Through) (c : ℕ) (object : Core) → IsCalled th c object → AllHold p cs xs → values_faults xs ≡ [] →
         calling_10 env (of_call th c object) ≡ [] → calling_11 env (of_call th c object) ≡ [] → calling_12 env (of_call th c object) ≡ [] → calling_14 env s (of_call th c object) ≡ [] →
-        Means p cs (call_core env (of_call th c object)) (call_denotes env (of_call th c object))
+        Means p cs (call_core env (of_call th c object)) (call_denotes env.symbols (of_call th c object))
     calling_right th c object is hold below none_10 none_11 none_12 none_14 =
         let method = method_of env c x.name (length xs) in
         let m = there method (has_found (has_method env c x.name) (is_none method) (only_if_empty (has_method env c x.name && is_none method) x.at none_12) (unless_empty (has_method env c x.name) x.at none_10)) in

@@ -5,7 +5,8 @@ use Rattle.std.specs.Option.{option_map_or}
 use Rattle.std.specs.Ordering.{int_eq}
 use Rattle.std.proofs.lemmas.Cmp.{int_eq_equiv}
 use Rattle.std.proofs.lemmas.Int.{int_wrap_fits, SFits-int_wrap}
-use Rattle.std.proofs.lemmas.Bool.{false≢true, and_from}
+use Rattle.std.proofs.lemmas.Bool.{and_from}
+use Rattle.std.specs.Cmp.{first_so}
 use Rattle.pb_int.specs.Int32.{wrap}
 use Rattle.core_tree.specs.declared.ty.Ty.{Ty}
 use Rattle.core_tree.specs.declared.ty.Ty.TheVariants as ty
@@ -14,15 +15,15 @@ use Rattle.core_tree.specs.declared.expr.Expr.{Expr as Core}
 use Rattle.core_tree.specs.declared.expr.Expr.TheVariants as core
 use Rattle.core_tree.specs.declared.expr.Expr.TheViews as view
 use Rattle.core_tree.specs.declared.program.Program.{Program}
-use Rattle.core_tree.specs.Types.{elements_of, is_int, is_object, is_assignable, is_value_type}
+use Rattle.core_tree.specs.Types.{elements_of, is_int, is_object, is_assignable, is_value_type, is_array}
 use Rattle.core_tree.specs.Typing.{Scope as CoreScope, has, fits, is_castable, is_int_number, all_fit, type_of, where_true}
 use Rattle.core_tree.specs.WellTyped.{is_value}
 use Rattle.core_tree.specs.BuiltIn.{is_built_in}
 use Rattle.core_tree.proofs.TypeNodes.{is_value_type-Array}
 use Rattle.core_tree.proofs.ExprNodes.{type_of-Int, type_of-Bool, type_of-Text, type_of-Null, type_of-Local, type_of-Element, type_of-New, type_of-NewBuilt, type_of-NewArray, type_of-Cast, type_of-Is}
-use Rattle.java_syntax.specs.declared.name.Ident.{Ident}
-use Rattle.java_syntax.specs.declared.name.TypeTree.{TypeTree}
-use Rattle.java_syntax.specs.declared.name.BaseType.{BaseType}
+use Rattle.token_reading.specs.declared.name.Ident.{Ident}
+use Rattle.token_reading.specs.declared.name.TypeTree.{TypeTree}
+use Rattle.token_reading.specs.declared.name.BaseType.{BaseType}
 use Rattle.java_syntax.specs.declared.expression.Expr.TheOpen.{Expr-F}
 use Rattle.class_table.specs.Names.{same_name}
 use Rattle.java_names.specs.declared.scope.Scope.{Scope}
@@ -30,41 +31,42 @@ use Rattle.java_names.specs.Types.{arrays}
 use Rattle.java_names.specs.declared.symbol.FieldSymbol.{FieldSymbol}
 use Rattle.java_names.specs.declared.symbol.MakerSymbol.{MakerSymbol}
 use Rattle.java_exprs.specs.declared.environment.Environment.{Environment}
-use Rattle.java_exprs.specs.declared.typed.Denotation.{Denotation}
-use Rattle.java_exprs.specs.declared.typed.Denotation.TheVariants as denotes
+use Rattle.java_denotes.specs.declared.denotation.Denotation.{Denotation}
+use Rattle.java_denotes.specs.declared.denotation.Denotation.TheVariants as denotes
 use Rattle.java_exprs.specs.declared.typed.Form.{Form}
 use Rattle.java_exprs.specs.declared.typed.Form.TheVariants as form
-use Rattle.java_exprs.specs.declared.through.Through.TheVariants as through
-use Rattle.java_exprs.specs.Attr.{Attr, value_type, unless, only_if, value_faults}
-use Rattle.java_exprs.specs.Types as rules
-use Rattle.java_exprs.specs.Members.{is_found}
-use Rattle.java_exprs.specs.Lookups.{member_of, maker_of, class_named, local_named, local_denotes, variable_denotes, elements_named, constant_at}
-use Rattle.java_exprs.specs.Denotes.{value, member_form, call_denotes, class_denotes, form_inside, system_name}
+use Rattle.java_denotes.specs.declared.through.Through.TheVariants as through
+use Rattle.java_exprs.specs.Attr.{Attr, unless, only_if, value_faults}
+use Rattle.java_denotes.specs.Members.{value_type, is_found}
+use Rattle.java_denotes.specs.Types as rules
+use Rattle.java_exprs.specs.Lookups.{member_of, maker_of, class_named, local_named, elements_named, constant_at}
+use Rattle.java_denotes.specs.Lookups.{local_denotes, variable_denotes}
+use Rattle.java_denotes.specs.Denotes.{value, call_denotes, class_denotes}
+use Rattle.java_exprs.specs.Denotes.{member_form, form_inside}
+use Rattle.java_denotes.specs.Library.{system_name}
 use Rattle.java_exprs.specs.Resolved.{cores, literal_core, first_core, member_core, call_core}
-use Rattle.java_exprs.specs.Rules.{wants, wants_each, is_array, naming_14, calling_10, calling_11, calling_12, cast_15, new_11}
+use Rattle.java_exprs.specs.Rules.{wants, wants_each, naming_14, calling_10, calling_11, calling_12, cast_15, new_11}
 use Rattle.java_exprs.specs.Checks.{attr_at}
 use Rattle.typing_law.specs.Means.{HasType, Means, MeansForm, IsPlace, IsRight, has_values}
 use Rattle.typing_law.specs.Agrees.{Agrees, AgreesOnScope, AgreesOnLocal, AgreesOnMaker}
 use Rattle.typing_law.proofs.Types.{same_assignable}
-use Rattle.typing_law.proofs.TypeFacts as facts
+use Rattle.core_tree.proofs.TypeFacts as facts
 use Rattle.typing_law.proofs.Values.{values_null, values_value, class_value, element_values, value_not_void}
 use Rattle.typing_law.proofs.NoFaults.{empty_parts, unless_empty, only_if_empty, no_place}
-use Rattle.typing_law.proofs.Standing.{and_l, exact, has_exact}
+use Rattle.typing_law.proofs.Standing.{exact, has_exact}
 use Rattle.typing_law.proofs.Parts.{Holds, IsValue, value_part, right_part, wanted}
 use Rattle.typing_law.proofs.Nodes.{breaks_none, has_type, has_type_int, has_type_bool, has_type_text, where_holds}
 use Rattle.typing_law.proofs.Arguments.{AllHold, arguments_fit}
 use Rattle.typing_law.proofs.Names as names
 use Rattle.typing_law.proofs.Spelled.{known_type, known_base, spelled_value, elements_value}
 use Rattle.typing_law.proofs.Casts.{castable}
+use Rattle.typing_law.proofs.Found.{some_of, no_length}
+use Rattle.std.proofs.Math.Bool.{or-true}
 
 -- ---- numbers
 
 pub wrapped : (z : ℤ) → IsTrue (is_int_number (wrap z))
 wrapped z = ap (λ y. int_eq y (wrap z)) (int_wrap_fits w32 (wrap z) (SFits-int_wrap w32 z)) ∙ int_eq_equiv.refl (wrap z)
-
-some_of : {X : Type 0} (found : Option X) → is_some found ≡ true → (x : X) × (found ≡ Some x)
-some_of None is = absurd (false≢true is)
-some_of (Some x) is = (x, refl)
 
 module _ (env : Environment) (p : Program) (agrees : Agrees env p) (s : Scope) (cs : CoreScope) (inside : AgreesOnScope env p s cs) where
   -- ---- leaves
@@ -103,12 +105,12 @@ module _ (env : Environment) (p : Program) (agrees : Agrees env p) (s : Scope) (
   class_means x (Some c) known = tt
   class_means x None known = subst (λ b. Means p cs core.Null (if b then Some denotes.System else None)) (sym known) tt
 
-  -- a name that is no local
+  -- a name that isn't a local
   member_name : (x : Ident) (m : Option FieldSymbol) → member_of env s.class x.name ≡ m → (is_some m || (is_some (class_named env x.name) || same_name x.name system_name)) ≡ true →
       only_if (s.is_static && (true && option_map_or (λ m. is_some m.place) m false)) x.at ≡ [] →
       names.NameIsRight env p agrees s cs inside
       (option_map_or (λ m. option_map_or (λ place. view.Field core.This place) m.place (option_map_or literal_core (constant_at env m.at) core.Null)) m core.Null)
-      (option_map_or (λ m. variable_denotes m.ty) m (class_denotes env x.name))
+      (option_map_or (λ m. variable_denotes m.ty) m (class_denotes env.symbols x.name))
       (option_map_or (λ m. if is_some m.place then form.Variable else form.Constant x.at) m form.Other)
   member_name x None is known none = record { means = class_means x (class_named env x.name) known; form = tt }
   member_name x (Some m) is known none = names.found_right env p agrees s cs inside x through.This s.class core.This m (refl, refl) (agrees.field s.class x.name m is) refl none
@@ -116,11 +118,7 @@ module _ (env : Environment) (p : Program) (agrees : Agrees env p) (s : Scope) (
   -- every field or constant is found by its name alone
   named : (x : Ident) (m : Option FieldSymbol) → option_and_then (λ m. if is_found through.This m then Some m else None) m ≡ m
   named x None = refl
-  named x (Some m) = ap (λ b. if b then Some m else None) (always (is_some m.place))
-    where
-      always : (b : Bool) → (b || true) ≡ true
-      always true = refl
-      always false = refl
+  named x (Some m) = ap (λ b. if b then Some m else None) (or-true (is_some m.place))
 
   pub name_right : (x : Ident) → Holds p cs (attr_at env s (Expr-F.Name x))
   name_right x none =
@@ -133,7 +131,7 @@ module _ (env : Environment) (p : Program) (agrees : Agrees env p) (s : Scope) (
           IsRight p cs (attr_at env s (Expr-F.Name x))
       cases (Some n) is none_10 none_14 = let right = local_right n (inside.local x.name n is) in subst (λ local. IsRight p cs (record {
         at = x.at;
-        denotes = option_map_or (local_denotes s) local (option_map_or (λ m. variable_denotes m.ty) (member_of env s.class x.name) (class_denotes env x.name));
+        denotes = option_map_or (local_denotes s) local (option_map_or (λ m. variable_denotes m.ty) (member_of env s.class x.name) (class_denotes env.symbols x.name));
         form = if is_some local then form.Variable else option_map_or (member_form env) (if is_some local then None else Some (record { through = through.This; class = s.class; object = core.This; name = x })) form.Other;
         needs_minus = false;
         core = option_map_or core.Local local (option_map_or (member_core env) (if is_some local then None else Some (record { through = through.This; class = s.class; object = core.This; name = x })) core.Null);
@@ -145,10 +143,10 @@ module _ (env : Environment) (p : Program) (agrees : Agrees env p) (s : Scope) (
           (subst (λ found. only_if (s.is_static && (true && option_map_or (λ m. is_some m.place) found false)) x.at ≡ []) same none_14) in
           let of_field = λ (m : FieldSymbol). option_map_or (λ place. view.Field core.This place) m.place (option_map_or literal_core (constant_at env m.at) core.Null) in
           let of_form = λ (m : FieldSymbol). if is_some m.place then form.Variable else form.Constant x.at in
-          let denoted = option_map_or (λ m. variable_denotes m.ty) (member_of env s.class x.name) (class_denotes env x.name) in
+          let denoted = option_map_or (λ m. variable_denotes m.ty) (member_of env s.class x.name) (class_denotes env.symbols x.name) in
           subst (λ local. IsRight p cs (record {
             at = x.at;
-            denotes = option_map_or (local_denotes s) local (option_map_or (λ m. variable_denotes m.ty) (member_of env s.class x.name) (class_denotes env x.name));
+            denotes = option_map_or (local_denotes s) local (option_map_or (λ m. variable_denotes m.ty) (member_of env s.class x.name) (class_denotes env.symbols x.name));
             form = if is_some local then form.Variable else option_map_or (member_form env) (if is_some local then None else Some (record { through = through.This; class = s.class; object = core.This; name = x })) form.Other;
             needs_minus = false;
             core = option_map_or core.Local local (option_map_or (member_core env) (if is_some local then None else Some (record { through = through.This; class = s.class; object = core.This; name = x })) core.Null);
@@ -162,9 +160,7 @@ module _ (env : Environment) (p : Program) (agrees : Agrees env p) (s : Scope) (
 
   inside_right : (e : Core) (f : Form) (d : Option Denotation) → MeansForm p cs e d f → MeansForm p cs e (value (value_type d)) (form_inside f)
   inside_right e form.Variable d right = record { place = right.place; type = right.type; said = ap (λ x. value (value_type x)) right.said; typed = right.typed }
-  inside_right e (form.Constant at) d right = tt
-  inside_right e form.Call d right = tt
-  inside_right e form.Other d right = tt
+  inside_right e _ d right = tt
 
   pub paren_right : (at : ℕ) (e : Attr) → Holds p cs e → Holds p cs (attr_at env s (Expr-F.Paren at e))
   paren_right at e holds none =
@@ -266,14 +262,11 @@ module _ (env : Environment) (p : Program) (agrees : Agrees env p) (s : Scope) (
 
   -- ---- new objects
 
-  no_length : (n : ℕ) → ◌≡◌ {A = ℕ} 0 (suc n) → ⊥
-  no_length n e = omega arith
-
   one_length : (n : ℕ) → ◌≡◌ {A = ℕ} (suc 0) (suc (suc n)) → ⊥
   one_length n e = omega arith
 
   and_true : (b : Bool) → IsTrue (b && true) → IsTrue b
-  and_true b is = and_l b true is
+  and_true b is = first_so b true is
 
   -- the message of a new object of a built-in class
   message_fits : (c : ℕ) (xs : List Attr) (params : List Ty) → length params ≡ length xs → IsTrue (all_fit p params (map (type_of p cs) (cores xs))) → (params ≡ []) ⊎ ((params ≡ ty.Text ∷ []) × IsTrue (not (c == 0))) →
@@ -338,7 +331,7 @@ module _ (env : Environment) (p : Program) (agrees : Agrees env p) (s : Scope) (
       let on_object = only_if_empty s.is_static at b.rule_14 in
       let of = λ (c : ℕ). names.of_call env p agrees s cs inside x xs through.Super c core.This in
       record {
-        means = subst (λ found. Means p cs (option_map_or (call_core env) (option_map of found) core.Null) (option_and_then (call_denotes env) (option_map of found))) (sym c.1)
+        means = subst (λ found. Means p cs (option_map_or (call_core env) (option_map of found) core.Null) (option_and_then (call_denotes env.symbols) (option_map of found))) (sym c.1)
             (names.calling_right env p agrees s cs inside x xs through.Super c.0 core.This (c.1, on_object) hold b.below
             (subst (λ found. option_map_or (calling_10 env) (option_map of found) [] ≡ []) c.1 b.rule_10)
             (subst (λ found. option_map_or (calling_11 env) (option_map of found) [] ≡ []) c.1 b.rule_11)

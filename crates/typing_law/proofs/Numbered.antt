@@ -13,13 +13,13 @@ use Rattle.class_table.specs.BuiltIn.{built_in}
 use Rattle.class_table.specs.Declarations.{declaration, declarations, declared_of}
 use Rattle.class_table.specs.Table.{row_of, rows_from}
 use Rattle.java_names.specs.declared.numbers.Numbers.{Numbers}
-use Rattle.java_names.specs.BuiltIn.{is_built_in}
+use Rattle.core_tree.specs.BuiltIn.{is_built_in}
 use Rattle.java_names.specs.Numbers.{numbers_after}
-use Rattle.java_types.specs.Files.{of_members}
+use Rattle.java_members.specs.Files.{of_members}
 use Rattle.typing_law.proofs.Scopes.{get_before}
 use Rattle.typing_law.proofs.Tables.{numbers_at}
 
--- what stands behind some items
+-- what stands after some items
 pub get_behind : {X : Type 0} (front xs : List X) (i : ℕ) → slice_get (front ++ xs) (length front + i) ≡ slice_get xs i
 get_behind [] xs i = let e : 0 + i ≡ i = omega arith in ap (slice_get xs) e
 get_behind (x ∷ front) xs i = let e : suc (length front) + i ≡ suc (length front + i) = omega arith in ap (slice_get (x ∷ front ++ xs)) e ∙ get_behind front xs i
@@ -65,7 +65,7 @@ module _ {X Y : Type 0} (give : ℕ → Member → List X) (own : List Member �
           subst (λ m. Is m y more.0) e more.2,
         )
 
-  -- the rows of a file behind the built-in ones
+  -- the rows of a file after the built-in ones
   behind : (ks : List ClassTree) (numbers : Numbers) → count numbers ≡ 0 → (j i : ℕ) (row : ClassRow) (y : Y) → slice_get (rows_from (declared_of ks) 0 (declared_of ks)) (suc (suc (suc (suc (suc (suc (suc (suc (suc (suc (suc (suc (suc (suc (suc (suc (suc (suc j)))))))))))))))))) ≡ Some row → slice_get (of_row row) i ≡ Some y →
       (x : X) × (slice_get (of_members give 18 ks) (count (numbers_at 0 numbers (rows_from (declared_of ks) 0 (declared_of ks)) (suc (suc (suc (suc (suc (suc (suc (suc (suc (suc (suc (suc (suc (suc (suc (suc (suc (suc j))))))))))))))))))) + i) ≡ Some x) × Is (18 + j) y x
   unfolding declared_of built_in numbers_at

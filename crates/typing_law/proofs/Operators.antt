@@ -23,16 +23,17 @@ use Rattle.java_syntax.specs.declared.operator.BinaryOp.TheVariants as binary
 use Rattle.java_syntax.specs.declared.expression.Expr.TheOpen.{Expr-F}
 use Rattle.java_names.specs.declared.scope.Scope.{Scope}
 use Rattle.java_exprs.specs.declared.environment.Environment.{Environment}
-use Rattle.java_exprs.specs.Attr.{Attr, value_type, unless, only_if, value_faults}
-use Rattle.java_exprs.specs.Types as rules
-use Rattle.java_exprs.specs.Denotes.{value, binary_type, bitwise_type, sum_type, is_text, choice_type}
+use Rattle.java_exprs.specs.Attr.{Attr, unless, only_if, value_faults}
+use Rattle.java_denotes.specs.Members.{value_type}
+use Rattle.java_denotes.specs.Types as rules
+use Rattle.java_denotes.specs.Denotes.{value, binary_type, bitwise_type, sum_type, is_text, choice_type}
 use Rattle.java_exprs.specs.Resolved.{binary_core, joins}
 use Rattle.java_exprs.specs.Rules.{wants, of_types, both_11, bitwise_11, equality_11, equality_16, is_bitwise, fits_bitwise, sum_11, sum_21, binary_11, rule_16, rule_21}
 use Rattle.java_exprs.specs.Checks.{attr_at}
 use Rattle.typing_law.specs.Means.{StandsFor, HasType, Means, has_values}
 use Rattle.typing_law.specs.Agrees.{Agrees}
 use Rattle.typing_law.proofs.Types.{same_assignable}
-use Rattle.typing_law.proofs.TypeFacts as facts
+use Rattle.core_tree.proofs.TypeFacts as facts
 use Rattle.typing_law.proofs.Values.{values_text_or_object, text_to_null, null_to_text, null_to_null}
 use Rattle.typing_law.proofs.NoFaults.{empty_parts, unless_empty, only_if_empty}
 use Rattle.typing_law.proofs.Standing.{exact, has_texts, has_string}
@@ -435,8 +436,8 @@ module _ (env : Environment) (p : Program) (agrees : Agrees env p) (s : Scope) (
       let same = same_assignable env.symbols p.classes agrees.below v.type w.type in
       record {
         means =
-            subst (λ d. Means p core (view.Cond c.core a.core b.core) (value (choice_type env (value_type d) (value_type b.denotes)))) (sym v.said)
-            (subst (λ d. Means p core (view.Cond c.core a.core b.core) (value (choice_type env (Some v.type) (value_type d)))) (sym w.said)
+            subst (λ d. Means p core (view.Cond c.core a.core b.core) (value (choice_type env.symbols (value_type d) (value_type b.denotes)))) (sym v.said)
+            (subst (λ d. Means p core (view.Cond c.core a.core b.core) (value (choice_type env.symbols (Some v.type) (value_type d)))) (sym w.said)
             (subst (λ x. Means p core (view.Cond c.core a.core b.core) (value (if x then Some (rules.wider env.symbols v.type w.type) else None))) (sym said_either)
             (subst (λ x. HasType p core (view.Cond c.core a.core b.core) (if x then w.type else v.type)) (sym same) (record {
               actual = chosen.0;

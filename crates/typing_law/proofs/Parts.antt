@@ -5,9 +5,10 @@ use Rattle.core_tree.specs.declared.ty.Ty.{Ty}
 use Rattle.core_tree.specs.declared.expr.Expr.{Expr as Core}
 use Rattle.core_tree.specs.declared.program.Program.{Program}
 use Rattle.core_tree.specs.Typing.{Scope as CoreScope}
-use Rattle.java_exprs.specs.declared.typed.Denotation.{Denotation}
-use Rattle.java_exprs.specs.declared.typed.Denotation.TheVariants as denotes
-use Rattle.java_exprs.specs.Attr.{Attr, value_type, unless, only_if, of_rule, is_no_value, is_nothing, named_10, nothing_11, bare_19, value_faults, negated_faults, prefix_faults}
+use Rattle.java_denotes.specs.declared.denotation.Denotation.{Denotation}
+use Rattle.java_denotes.specs.declared.denotation.Denotation.TheVariants as denotes
+use Rattle.java_exprs.specs.Attr.{Attr, unless, only_if, of_rule, is_no_value, is_nothing, named_10, nothing_11, bare_19, value_faults, negated_faults, prefix_faults}
+use Rattle.java_denotes.specs.Members.{value_type}
 use Rattle.java_exprs.specs.Rules.{wants}
 use Rattle.typing_law.specs.Means.{HasType, Means, IsRight}
 use Rattle.typing_law.proofs.NoFaults.{empty_parts, empty_rule, unless_empty, no_place}
@@ -27,10 +28,8 @@ module _ (p : Program) (s : CoreScope) where
   has_value core None at means no_10 no_11 = absurd means
   has_value core (Some (denotes.Value t)) at means no_10 no_11 = (t, refl, means)
   has_value core (Some denotes.Nothing) at means no_10 no_11 = no_place at [] no_11
-  has_value core (Some (denotes.Class c)) at means no_10 no_11 = no_place at [] no_10
-  has_value core (Some denotes.System) at means no_10 no_11 = no_place at [] no_10
-  has_value core (Some denotes.Output) at means no_10 no_11 = no_place at [] no_10
   has_value core (Some (denotes.Print print)) at means no_10 no_11 = no_place at [] no_11
+  has_value core _ at means no_10 no_11 = no_place at [] no_10
 
   value_of : (e : Attr) → IsRight p s e → named_10 e ≡ [] → nothing_11 e ≡ [] → IsValue p s e
   value_of e right no_10 no_11 = let v = has_value e.core e.denotes e.at right.means no_10 no_11 in record { type = v.0; said = v.1; has = v.2 }

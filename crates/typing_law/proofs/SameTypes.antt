@@ -9,7 +9,7 @@ use Rattle.core_tree.specs.declared.ty.Ty.TheOpen.{Ty-F}
 use Rattle.core_tree.specs.declared.ty.Ty.TheFolds.{ind-Ty, map-Ty}
 use Rattle.core_tree.specs.Types.{is_same_type}
 use Rattle.core_tree.proofs.TypeNodes.{is_same_type-Int, is_same_type-Bool, is_same_type-Text, is_same_type-Class, is_same_type-Array, is_same_type-Null, is_same_type-Void}
-use Rattle.typing_law.proofs.TypeFacts as facts
+use Rattle.core_tree.proofs.TypeFacts as facts
 
 abbrev IsItself : Ty → Type 0
 IsItself t = IsTrue (is_same_type t t)

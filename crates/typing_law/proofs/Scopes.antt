@@ -1,4 +1,4 @@
--- Scopes of a body, one behind another.
+-- Scopes of a body, one after another.
 use Rattle.std.proofs.Common.{◌≡◌, ◌∙◌, ℕ, zero, suc, ◌+◌, Bool, true, false, IsTrue, List, [], ◌∷◌, ◌++◌, length, take, Some, None, slice_get, refl, subst, sym, ap, arith, cond}
 use Rattle.std.specs.Map.{lookup}
 use Rattle.std.specs.List.{list_all}
@@ -51,7 +51,7 @@ lookup_more test (d ∷ es) e k {Q = Q} is before last = cases (λ is before. lo
     cases more true is before = before is
     cases more false is before = more is before
 
--- numbers go on behind others
+-- numbers go on after others
 pub numbers_append : {X : Type 0} (n : ℕ) (xs ys : List X) → numbers_from n (xs ++ ys) ≡ numbers_from n xs ++ numbers_from (n + length xs) ys
 numbers_append n [] ys = let e : n ≡ n + 0 = omega arith in ap (λ m. numbers_from m ys) e
 numbers_append n (x ∷ xs) ys = let e : suc n + length xs ≡ n + suc (length xs) = omega arith in ap (λ ks. n ∷ ks) (numbers_append (suc n) xs ys ∙ ap (λ m. numbers_from (suc n) xs ++ numbers_from m ys) e)
@@ -89,7 +89,7 @@ module _ (env : Environment) (p : Program) where
     local = λ x n is. let has = known.local x n (lookup_front (same_name x) s.locals (length outer.locals) n is) in record { type = has.type; slot = has.slot; value = has.value };
   }
 
-  -- the scope behind a part whose locals end with it
+  -- the scope after a part whose locals end with it
   unfoldable pub goes_left : (s after : Scope) → GoesTo env p s after → GoesTo env p s (left s after)
   unfolding back_at
   goes_left s after goes = record {
@@ -103,7 +103,7 @@ module _ (env : Environment) (p : Program) where
     known = left_known s after goes.known;
   }
 
-  -- the scope behind a declaration
+  -- the scope after a declaration
   unfoldable pub goes_declared : (s : Scope) (x : Name) (t : Ty) → IsKnown env p s → IsTrue (is_value p t) → GoesTo env p s (declared s x t)
   unfolding declared
   goes_declared s x t known value = record {

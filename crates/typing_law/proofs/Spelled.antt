@@ -7,9 +7,9 @@ use Rattle.core_tree.specs.declared.ty.Ty.TheVariants as ty
 use Rattle.core_tree.specs.declared.program.Program.{Program}
 use Rattle.core_tree.specs.WellTyped.{is_value}
 use Rattle.core_tree.proofs.TypeNodes.{is_value_type-Int, is_value_type-Bool, is_value_type-Text, is_value_type-Array}
-use Rattle.java_syntax.specs.declared.name.BaseType.{BaseType}
-use Rattle.java_syntax.specs.declared.name.BaseType.TheVariants as base
-use Rattle.java_syntax.specs.declared.name.TypeTree.{TypeTree}
+use Rattle.token_reading.specs.declared.name.BaseType.{BaseType}
+use Rattle.token_reading.specs.declared.name.BaseType.TheVariants as base
+use Rattle.token_reading.specs.declared.name.TypeTree.{TypeTree}
 use Rattle.class_table.specs.Names.{Name}
 use Rattle.java_names.specs.Types as types
 use Rattle.java_exprs.specs.declared.environment.Environment.{Environment}

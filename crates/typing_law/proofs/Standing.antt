@@ -1,6 +1,6 @@
 -- Tests of a type hold of what stands for it.
-use Rattle.std.proofs.Common.{◌≡◌, ◌∙◌, ⊎_elim, Bool, false, ◌||◌, ◌&&◌, IsTrue, List, Some, subst, sym, ap}
-use Rattle.std.proofs.lemmas.Bool.{false≢true, or_cases, or_left, or_right, and_parts}
+use Rattle.std.proofs.Common.{◌≡◌, ◌∙◌, ⊎_elim, Bool, false, ◌||◌, IsTrue, List, Some, subst, sym, ap}
+use Rattle.std.proofs.lemmas.Bool.{false≢true, or_cases, or_left, or_right}
 use Rattle.core_tree.specs.declared.ty.Ty.{Ty}
 use Rattle.core_tree.specs.declared.ty.Ty.TheVariants as ty
 use Rattle.core_tree.specs.declared.expr.Expr.{Expr as Core}
@@ -9,15 +9,9 @@ use Rattle.core_tree.specs.declared.program.Program.{Program}
 use Rattle.core_tree.specs.Types.{is_int, is_boolean, is_string, is_null, is_object, is_assignable}
 use Rattle.core_tree.specs.Typing.{Scope, has, has_text, fits, is_text_or_null, type_of}
 use Rattle.core_tree.proofs.TypeNodes.{is_assignable-Text, is_assignable-Null}
-use Rattle.java_exprs.specs.Types.{is_printed}
+use Rattle.java_exprs.specs.Rules.{is_printed}
 use Rattle.typing_law.specs.Means.{StandsFor, HasType}
-use Rattle.typing_law.proofs.TypeFacts as type
-
-pub and_l : (a b : Bool) → IsTrue (a && b) → IsTrue a
-and_l a b both = (and_parts a b both).0
-
-pub and_r : (a b : Bool) → IsTrue (a && b) → IsTrue b
-and_r a b both = (and_parts a b both).1
+use Rattle.core_tree.proofs.TypeFacts as type
 
 -- a test that no String passes
 pub stands_exact : (test : Ty → Bool) (a t : Ty) → test ty.Text ≡ false → StandsFor a t → IsTrue (test t) → a ≡ t
@@ -49,9 +43,6 @@ module _ (p : Program) (s : Scope) (core : Core) (t : Ty) (typed : HasType p s c
 
   pub has_null : (test : Ty → Bool) → IsTrue (test ty.Null) → IsTrue (test t) → IsTrue (has test (type_of p s core))
   has_null test of_null is = subst (λ x. IsTrue (has test x)) (sym typed.typed) (stands_null test typed.actual t of_null typed.stands is)
-
-  pub has_int : IsTrue (is_int t) → IsTrue (has is_int (type_of p s core))
-  has_int is = has_exact is_int type.is_int-Text is
 
   pub has_boolean : IsTrue (is_boolean t) → IsTrue (has is_boolean (type_of p s core))
   has_boolean is = has_exact is_boolean type.is_boolean-Text is

@@ -17,7 +17,7 @@ use Rattle.typing_law.proofs.NoFaults.{empty_parts}
 use Rattle.typing_law.proofs.Scopes.{goes_nowhere, goes_on, numbers_on, goes_left, left_known, fits_before, fits_after}
 
 module _ (env : Environment) (p : Program) where
-  -- a statement with its scopes before and behind it, inside a loop or not
+  -- a statement with its scopes before and after it, inside a loop or not
   pub record StmtIsRight (inside : Bool) (s : Scope) (after : Scope) (step : Step) : Type 0 where
     pub goes : GoesTo env p s after
     pub typed : (cs : CoreScope) → FitsBody s after.slots cs → IsTrue (is_typed_stmt p cs step inside)
@@ -71,7 +71,7 @@ module _ (env : Environment) (p : Program) where
   BranchHolds None = Unit {0}
   BranchHolds (Some k) = PartHolds k
 
-  -- ---- one behind another
+  -- ---- one after another
 
   pub sequence_right : (ks : List Part) → PartsHold ks → (s : Scope) → IsKnown env p s → (sequence ks s).faults ≡ [] → StmtsAreRight s.in_loop s (sequence ks s).after (sequence ks s).steps
   unfolding sequence goes_nowhere goes_on

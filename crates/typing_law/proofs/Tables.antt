@@ -26,17 +26,12 @@ use Rattle.java_names.specs.Numbers.{numbers_after, first_numbers}
 use Rattle.java_names.specs.Selectors.{selectors_of}
 use Rattle.java_names.specs.Symbols.{class_symbol, class_symbols, names_of, symbols_of}
 use Rattle.java_exprs.specs.declared.environment.Environment.{Environment}
-use Rattle.java_exprs.specs.declared.literal.Literal.{Literal}
+use Rattle.primitive_operators.specs.declared.scalar.Scalar.{Scalar}
 use Rattle.java_exprs.specs.Lookups.{superclass_of, class_named}
-use Rattle.java_types.specs.Files.{core_class, core_classes, program_in}
+use Rattle.java_members.specs.Files.{core_class, core_classes, program_in}
+use Rattle.typing_law.proofs.Found.{some_within, numbers_shift, numbers_one}
 
 -- ---- places
-
-numbers_shift : (n k : ℕ) → suc n + k ≡ n + suc k
-numbers_shift n k = omega arith
-
-numbers_one : (n k : ℕ) → n + 1 + k ≡ n + suc k
-numbers_one n k = omega arith
 
 pub core_at : (env : Environment) (tree : FileTree) (n : ℕ) (rows : List ClassRow) (k : ℕ) → slice_get (core_classes env tree n rows) k ≡ option_map (core_class env tree (n + k)) (slice_get rows k)
 unfolding core_classes
@@ -81,7 +76,7 @@ climb_short parents zero c = omega arith
 climb_short parents (suc n) None = omega arith
 climb_short parents (suc n) (Some c) = let shorter = climb_short parents n (parent_in parents c) in omega arith
 
--- a line is no longer than there are classes
+-- a line isn't longer than there are classes
 pub line_short : (declared : List Declaration) (c : ℕ) (row : ClassRow) → slice_get (rows_from declared 0 declared) c ≡ Some row → length row.line ≤ length declared
 line_short declared c row is = of_found (slice_get declared c) refl (sym (row_at declared 0 declared c) ∙ is)
   where
@@ -96,15 +91,7 @@ line_short declared c row is = of_found (slice_get declared c) refl (sym (row_at
     of_found None found_is e = absurd (none-some row e)
     of_found (Some d) found_is e = subst (λ r. length r.line ≤ length declared) (same_Some _ _ e) (short (slice_get declared (0 + c)))
 
-some_within : {X : Type 0} (xs : List X) (k : ℕ) → k < length xs → (x : X) × (slice_get xs k ≡ Some x)
-some_within [] k below = absurd (none_below k below)
-  where
-    none_below : (k : ℕ) → k < 0 → ⊥
-    none_below k below = omega arith
-some_within (x ∷ xs) zero below = (x, refl)
-some_within (x ∷ xs) (suc k) below = some_within xs k (omega arith)
-
-module _ (table : ClassTable) (tree : FileTree) (constants : List (ℕ × Option Literal)) where
+module _ (table : ClassTable) (tree : FileTree) (constants : List (ℕ × Option Scalar)) where
   abbrev pub env_with : Environment
   env_with = record { symbols = symbols_of table; constants = constants; places = tree.places }
 

@@ -2,10 +2,7 @@
 use Rattle.std.proofs.Common.{◌≡◌, ◌∙◌, ⊎_elim, ℕ, Bool, true, false, ◌||◌, ◌&&◌, IsTrue, [], length, Option, Some, refl, subst, sym, ap, if◌then◌else◌}
 use Rattle.std.specs.Prelude.{is_none}
 use Rattle.std.proofs.lemmas.Bool.{false≢true, or_cases, or_left, or_right, and_from}
-use denote.Hole.Carrier.{out, shown, hidden}
-use Rattle.core_tree.specs.declared.ty.Ty.{Ty, out-Ty}
-use Rattle.core_tree.specs.declared.ty.Ty.TheBlock.{shown-the_row-Ty-0}
-use Rattle.core_tree.specs.declared.ty.Ty.TheVariants as ty
+use Rattle.core_tree.specs.declared.ty.Ty.{Ty}
 use Rattle.core_tree.specs.declared.operator.UpOp.{UpOp}
 use Rattle.core_tree.specs.declared.operator.UpOp.TheVariants as up
 use Rattle.core_tree.specs.declared.expr.Expr.{Expr as Core, out-Expr}
@@ -16,29 +13,22 @@ use Rattle.core_tree.specs.Types.{is_int, is_boolean, is_string, is_null, is_voi
 use Rattle.core_tree.specs.Typing.{Scope as CoreScope, PartType, has, has_text, ints, booleans, expr_node, type_of, target_type, is_update}
 use Rattle.java_names.specs.declared.scope.Scope.{Scope}
 use Rattle.java_exprs.specs.declared.environment.Environment.{Environment}
-use Rattle.java_exprs.specs.declared.typed.Denotation.{Denotation}
-use Rattle.java_exprs.specs.declared.typed.Denotation.TheVariants as denotes
+use Rattle.java_denotes.specs.declared.denotation.Denotation.{Denotation}
+use Rattle.java_denotes.specs.declared.denotation.Denotation.TheVariants as denotes
 use Rattle.java_exprs.specs.declared.typed.Form.{Form}
 use Rattle.java_exprs.specs.declared.typed.Form.TheVariants as form
-use Rattle.java_exprs.specs.Attr.{Attr, value_type, unless, only_if}
+use Rattle.java_exprs.specs.Attr.{Attr, unless, only_if}
+use Rattle.java_denotes.specs.Members.{value_type}
 use Rattle.java_exprs.specs.Rules.{both_11, bitwise_11, sum_21}
 use Rattle.java_statements.specs.Statements.{target_node, target_of, is_target, target_18, constant_20, sum_11, sum_op}
 use Rattle.typing_law.specs.Means.{IsPlace, IsRight, MeansForm, is_place, has_values}
 use Rattle.typing_law.specs.Agrees.{Agrees}
-use Rattle.typing_law.proofs.TypeFacts as facts
+use Rattle.core_tree.proofs.TypeFacts as facts
 use Rattle.typing_law.proofs.Values.{value_not_void, values_text_or_object}
 use Rattle.typing_law.proofs.NoFaults.{only_if_empty, no_place}
 use Rattle.typing_law.proofs.Standing.{has_texts}
 use Rattle.typing_law.proofs.Parts.{IsValue}
 use Rattle.typing_law.proofs.Operators.{both, asked, bits_of, no_or, int_part, boolean_part}
-
-ints_int : ints (Some ty.Int) (Some ty.Int) ≡ true
-unfolding out-Ty out shown-the_row-Ty-0 shown hidden
-ints_int = refl
-
-booleans_bool : booleans (Some ty.Bool) (Some ty.Bool) ≡ true
-unfolding out-Ty out shown-the_row-Ty-0 shown hidden
-booleans_bool = refl
 
 -- a type of values isn't Void
 pub values_not_void : (p : Program) (t : Ty) → IsTrue (has_values p t) → is_void t ≡ false
@@ -62,8 +52,7 @@ module _ (p : Program) (cs : CoreScope) where
   of_form : (e : Core) (d : Option Denotation) (f : Form) (at : ℕ) → MeansForm p cs e d f → unless (false || is_target f) at ≡ [] → constant_20 f ≡ [] → IsPlace p cs e d
   of_form e d form.Variable at right none_18 none_20 = right
   of_form e d (form.Constant k) at right none_18 none_20 = no_place k [] none_20
-  of_form e d form.Call at right none_18 none_20 = no_place at [] none_18
-  of_form e d form.Other at right none_18 none_20 = no_place at [] none_18
+  of_form e d _ at right none_18 none_20 = no_place at [] none_18
 
   pub is_variable : (a : Attr) (v : IsValue p cs a) → IsRight p cs a → target_18 a ≡ [] → constant_20 a.form ≡ [] → IsPlace p cs a.core a.denotes
   is_variable a v right none_18 none_20 = of_form a.core a.denotes a.form a.at right.form (subst (λ d. unless (is_none d || is_target a.form) a.at ≡ []) v.said none_18) none_20
@@ -86,9 +75,6 @@ module _ (env : Environment) (p : Program) (agrees : Agrees env p) (s : Scope) (
       (λ is. or_left (ints (Some v.type) (type_of p cs e.core)) (booleans (Some v.type) (type_of p cs e.core)) (and_from (is_int v.type) (has is_int (type_of p cs e.core)) is.0 (subst (λ x. IsTrue (has is_int x)) (sym (int_part env p agrees s cs e w is.1)) facts.is_int-Int)))
       (λ is. or_right (ints (Some v.type) (type_of p cs e.core)) (booleans (Some v.type) (type_of p cs e.core)) (and_from (is_boolean v.type) (has is_boolean (type_of p cs e.core)) is.0 (subst (λ x. IsTrue (has is_boolean x)) (sym (boolean_part env p agrees s cs e w is.1)) facts.is_boolean-Bool)))
       (bits_of env p agrees s cs a e v w none)
-
-  no_string : (x y : Bool) → (x && y) ≡ false → (false || (x && y)) ≡ false
-  no_string x y none = none
 
   pub sum_update : sum_11 a e ≡ [] → sum_21 a e ≡ [] → Updates (sum_op (value_type a.denotes))
   sum_update none_11 none_21 =

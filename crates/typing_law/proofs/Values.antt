@@ -9,7 +9,7 @@ use Rattle.core_tree.specs.declared.program.Program.{Program}
 use Rattle.core_tree.specs.Types.{is_int, is_boolean, is_string, is_null, is_void, is_object, is_assignable, is_value_type}
 use Rattle.core_tree.proofs.TypeNodes.{is_value_type-Int, is_value_type-Bool, is_value_type-Text, is_value_type-Class, is_value_type-Array, is_value_type-Void, is_assignable-Text, is_assignable-Null}
 use Rattle.typing_law.specs.Means.{has_values}
-use Rattle.typing_law.proofs.TypeFacts as facts
+use Rattle.core_tree.proofs.TypeFacts as facts
 
 pub values_int : (p : Program) → IsTrue (has_values p ty.Int)
 values_int p = or_left (is_value_type (length p.classes) ty.Int) (is_null ty.Int) (is_value_type-Int (length p.classes))
@@ -53,9 +53,6 @@ values_text_or_object p = facts.ty_cases (λ t. IsTrue (has_values p t) → is_o
     (λ is no. absurd (⊎_elim (λ value. false≢true (sym (is_value_type-Void (length p.classes)) ∙ value)) (λ null. false≢true (sym facts.is_null-Void ∙ null)) (or_cases (is_value_type (length p.classes) ty.Void) (is_null ty.Void) is)))
 
 -- ---- null and Strings
-
-pub text_to_text : (classes : List Class) → is_assignable classes ty.Text ty.Text ≡ true
-text_to_text classes = ap (λ f. f ty.Text) (is_assignable-Text classes) ∙ facts.is_string-Text
 
 pub text_to_null : (classes : List Class) → is_assignable classes ty.Text ty.Null ≡ false
 text_to_null classes = ap (λ f. f ty.Null) (is_assignable-Text classes) ∙ facts.is_string-Null

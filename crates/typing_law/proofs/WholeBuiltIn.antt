@@ -1,7 +1,8 @@
 -- The first classes of a file's program are the built-in ones.
-use Rattle.std.proofs.Common.{◌≡◌, ◌∙◌, ℕ, zero, suc, ◌+◌, ◌<◌, ◌≤◌, List, [], ◌∷◌, codes, length, map, take, reverse, Option, Some, slice_get, refl, sym, ap, arith}
+use Rattle.std.proofs.Common.{◌≡◌, ◌∙◌, ℕ, zero, suc, ◌+◌, ◌<◌, ◌≤◌, List, [], ◌∷◌, length, map, take, reverse, Option, Some, slice_get, refl, sym, ap, arith}
 use Rattle.std.specs.Prelude.{unwrap_or}
 use Rattle.std.specs.List.{flat_map}
+use Rattle.core_tree.specs.declared.built_in.BuiltIn.TheVariants as built_in_class
 use Rattle.core_tree.specs.declared.program.Field.{Field}
 use Rattle.core_tree.specs.BuiltIn.{built_in_classes, message_field}
 use Rattle.core_tree.specs.WellTyped.{Row}
@@ -11,16 +12,17 @@ use Rattle.class_table.specs.declared.declaration.Declaration.{Declaration}
 use Rattle.class_table.specs.declared.row.ClassRow.{ClassRow}
 use Rattle.class_table.specs.declared.row.ClassTable.{ClassTable}
 use Rattle.class_table.specs.Ancestors.{climb, line_at}
-use Rattle.class_table.specs.BuiltIn.{built_in, object, throwable, exception}
+use Rattle.class_table.specs.BuiltIn.{built_in, declaration_of}
 use Rattle.class_table.specs.Declarations.{declared_of}
 use Rattle.class_table.specs.Table.{row_of, table_of}
 use Rattle.class_table.specs.TableFacts.{IsTable}
 use Rattle.java_exprs.specs.declared.environment.Environment.{Environment}
-use Rattle.java_exprs.specs.declared.literal.Literal.{Literal}
-use Rattle.java_types.specs.Declarations.{declaration_faults}
-use Rattle.java_types.specs.Files.{of_members, core_classes, fields_of, all_own_fields}
+use Rattle.primitive_operators.specs.declared.scalar.Scalar.{Scalar}
+use Rattle.java_members.specs.Declarations.{declaration_faults}
+use Rattle.java_members.specs.Files.{of_members, core_classes, fields_of, all_own_fields}
 use Rattle.typing_law.proofs.Tables.{env_with, program_with}
 use Rattle.typing_law.proofs.WholeFields.{fields_along_line}
+use Rattle.typing_law.proofs.Found.{too_great}
 
 -- rows with these fields, by the numbers of the classes
 rows_with : (ℕ → List Field) → ℕ → List ClassRow → List Row
@@ -45,7 +47,7 @@ first_fields : ℕ → List Field
 first_fields zero = []
 first_fields (suc c) = message_field ∷ []
 
-module _ (tree : FileTree) (constants : List (ℕ × Option Literal)) (none : of_members (declaration_faults (env_with (table_of tree) tree [])) 18 tree.classes ≡ [])
+module _ (tree : FileTree) (constants : List (ℕ × Option Scalar)) (none : of_members (declaration_faults (env_with (table_of tree) tree [])) 18 tree.classes ≡ [])
     (is_table : IsTable (table_of tree)) (short : (c : ℕ) (row : ClassRow) → slice_get (table_of tree).classes c ≡ Some row → length row.line ≤ length (table_of tree).classes) where
   abbrev table : ClassTable
   table = table_of tree
@@ -60,29 +62,26 @@ module _ (tree : FileTree) (constants : List (ℕ × Option Literal)) (none : of
   of_row : (c : ℕ) (d : Declaration) → slice_get table.classes c ≡ Some (row_of (declared_of tree.classes) c d) → flat_map own (reverse (line_at (declared_of tree.classes) c)) ≡ first_fields c → fields_of env tree c ≡ first_fields c
   of_row c d is fields = fields_along_line tree constants none is_table short c (row_of (declared_of tree.classes) c d) is ∙ fields
 
-  too_great : (c : ℕ) {Q : Type 0} → suc (suc (suc (suc (suc (suc (suc (suc (suc (suc (suc (suc (suc (suc (suc (suc (suc (suc c))))))))))))))))) < 18 → Q
-  too_great c below = absurd (omega arith)
-
   built_fields : (c : ℕ) → c < 18 → fields_of env tree c ≡ first_fields c
   unfolding declared_of built_in climb first_fields
-  built_fields zero below = of_row 0 object refl refl
-  built_fields (suc zero) below = of_row 1 throwable refl refl
-  built_fields (suc (suc zero)) below = of_row 2 (exception (codes "Exception") 1) refl refl
-  built_fields (suc (suc (suc zero))) below = of_row 3 (exception (codes "RuntimeException") 2) refl refl
-  built_fields (suc (suc (suc (suc zero)))) below = of_row 4 (exception (codes "Error") 1) refl refl
-  built_fields (suc (suc (suc (suc (suc zero))))) below = of_row 5 (exception (codes "ArithmeticException") 3) refl refl
-  built_fields (suc (suc (suc (suc (suc (suc zero)))))) below = of_row 6 (exception (codes "NullPointerException") 3) refl refl
-  built_fields (suc (suc (suc (suc (suc (suc (suc zero))))))) below = of_row 7 (exception (codes "NegativeArraySizeException") 3) refl refl
-  built_fields (suc (suc (suc (suc (suc (suc (suc (suc zero)))))))) below = of_row 8 (exception (codes "FallbackError") 4) refl refl
-  built_fields (suc (suc (suc (suc (suc (suc (suc (suc (suc zero))))))))) below = of_row 9 (exception (codes "ClassCastException") 3) refl refl
-  built_fields (suc (suc (suc (suc (suc (suc (suc (suc (suc (suc zero)))))))))) below = of_row 10 (exception (codes "ArrayStoreException") 3) refl refl
-  built_fields (suc (suc (suc (suc (suc (suc (suc (suc (suc (suc (suc zero))))))))))) below = of_row 11 (exception (codes "IndexOutOfBoundsException") 3) refl refl
-  built_fields (suc (suc (suc (suc (suc (suc (suc (suc (suc (suc (suc (suc zero)))))))))))) below = of_row 12 (exception (codes "ArrayIndexOutOfBoundsException") 11) refl refl
-  built_fields (suc (suc (suc (suc (suc (suc (suc (suc (suc (suc (suc (suc (suc zero))))))))))))) below = of_row 13 (exception (codes "IllegalArgumentException") 3) refl refl
-  built_fields (suc (suc (suc (suc (suc (suc (suc (suc (suc (suc (suc (suc (suc (suc zero)))))))))))))) below = of_row 14 (exception (codes "IllegalStateException") 3) refl refl
-  built_fields (suc (suc (suc (suc (suc (suc (suc (suc (suc (suc (suc (suc (suc (suc (suc zero))))))))))))))) below = of_row 15 (exception (codes "UnsupportedOperationException") 3) refl refl
-  built_fields (suc (suc (suc (suc (suc (suc (suc (suc (suc (suc (suc (suc (suc (suc (suc (suc zero)))))))))))))))) below = of_row 16 (exception (codes "StackOverflowError") 4) refl refl
-  built_fields (suc (suc (suc (suc (suc (suc (suc (suc (suc (suc (suc (suc (suc (suc (suc (suc (suc zero))))))))))))))))) below = of_row 17 (exception (codes "RequiresError") 4) refl refl
+  built_fields zero below = of_row 0 (declaration_of built_in_class.Object) refl refl
+  built_fields (suc zero) below = of_row 1 (declaration_of built_in_class.Throwable) refl refl
+  built_fields (suc (suc zero)) below = of_row 2 (declaration_of built_in_class.Exception) refl refl
+  built_fields (suc (suc (suc zero))) below = of_row 3 (declaration_of built_in_class.RuntimeException) refl refl
+  built_fields (suc (suc (suc (suc zero)))) below = of_row 4 (declaration_of built_in_class.Error) refl refl
+  built_fields (suc (suc (suc (suc (suc zero))))) below = of_row 5 (declaration_of built_in_class.ArithmeticException) refl refl
+  built_fields (suc (suc (suc (suc (suc (suc zero)))))) below = of_row 6 (declaration_of built_in_class.NullPointerException) refl refl
+  built_fields (suc (suc (suc (suc (suc (suc (suc zero))))))) below = of_row 7 (declaration_of built_in_class.NegativeArraySizeException) refl refl
+  built_fields (suc (suc (suc (suc (suc (suc (suc (suc zero)))))))) below = of_row 8 (declaration_of built_in_class.FallbackError) refl refl
+  built_fields (suc (suc (suc (suc (suc (suc (suc (suc (suc zero))))))))) below = of_row 9 (declaration_of built_in_class.ClassCastException) refl refl
+  built_fields (suc (suc (suc (suc (suc (suc (suc (suc (suc (suc zero)))))))))) below = of_row 10 (declaration_of built_in_class.ArrayStoreException) refl refl
+  built_fields (suc (suc (suc (suc (suc (suc (suc (suc (suc (suc (suc zero))))))))))) below = of_row 11 (declaration_of built_in_class.IndexOutOfBoundsException) refl refl
+  built_fields (suc (suc (suc (suc (suc (suc (suc (suc (suc (suc (suc (suc zero)))))))))))) below = of_row 12 (declaration_of built_in_class.ArrayIndexOutOfBoundsException) refl refl
+  built_fields (suc (suc (suc (suc (suc (suc (suc (suc (suc (suc (suc (suc (suc zero))))))))))))) below = of_row 13 (declaration_of built_in_class.IllegalArgumentException) refl refl
+  built_fields (suc (suc (suc (suc (suc (suc (suc (suc (suc (suc (suc (suc (suc (suc zero)))))))))))))) below = of_row 14 (declaration_of built_in_class.IllegalStateException) refl refl
+  built_fields (suc (suc (suc (suc (suc (suc (suc (suc (suc (suc (suc (suc (suc (suc (suc zero))))))))))))))) below = of_row 15 (declaration_of built_in_class.UnsupportedOperationException) refl refl
+  built_fields (suc (suc (suc (suc (suc (suc (suc (suc (suc (suc (suc (suc (suc (suc (suc (suc zero)))))))))))))))) below = of_row 16 (declaration_of built_in_class.StackOverflowError) refl refl
+  built_fields (suc (suc (suc (suc (suc (suc (suc (suc (suc (suc (suc (suc (suc (suc (suc (suc (suc zero))))))))))))))))) below = of_row 17 (declaration_of built_in_class.RequiresError) refl refl
   built_fields (suc (suc (suc (suc (suc (suc (suc (suc (suc (suc (suc (suc (suc (suc (suc (suc (suc (suc c)))))))))))))))))) below = too_great c below
 
   pub first_rows : map typed.row_of (take (length built_in_classes) (program_with table tree constants).classes) ≡ map typed.row_of built_in_classes

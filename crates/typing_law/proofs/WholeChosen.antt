@@ -1,5 +1,5 @@
 -- What the selectors pick in a file's classes is declared on their lines, and fits what they pick in the superclass.
-use Rattle.std.proofs.Common.{◌≡◌, ◌∙◌, ℕ, ◌≤◌, Bool, true, false, not, ◌||◌, ◌&&◌, ◌==◌, IsTrue, List, [], ◌∷◌, length, drop, map, get_or, Option, Some, None, slice_get, refl, subst, sym, ap, arith}
+use Rattle.std.proofs.Common.{◌≡◌, ◌∙◌, ℕ, ◌≤◌, Bool, true, false, not, ◌||◌, ◌&&◌, ◌==◌, IsTrue, List, [], ◌∷◌, length, drop, map, get_or, Option, Some, None, slice_get, refl, subst, sym, ap}
 use Rattle.std.specs.Prelude.{nat_eq, option_and_then}
 use Rattle.std.specs.Bool.{beq}
 use Rattle.std.specs.List.{list_all, list_any, range_with_len}
@@ -8,6 +8,7 @@ use Rattle.std.proofs.lemmas.Option.{same_Some}
 use Rattle.std.proofs.lemmas.Bool.{false≢true, and_from, eqb-true}
 use Rattle.std.proofs.lemmas.List.Folds.{list_all-map}
 use Rattle.std.proofs.lemmas.List.Quantifiers.{position-Some}
+use Rattle.std.specs.Cmp.{second_so}
 use Rattle.core_tree.specs.declared.program.Program.{Program}
 use Rattle.core_tree.specs.Types.{is_string, is_subclass}
 use Rattle.core_tree.specs.Typing.{is_throwable}
@@ -27,11 +28,10 @@ use Rattle.java_names.specs.Chosen.{chosen_method, chosen_of, first_picked, meth
 use Rattle.java_names.specs.Lookups.{is_below, line_of, nearest}
 use Rattle.java_names.specs.Selectors.{same_selector, selector_of, message_selector}
 use Rattle.java_names.specs.Types.{answer_type, declared_types}
-use Rattle.java_exprs.specs.declared.literal.Literal.{Literal}
-use Rattle.java_types.specs.Declarations.{declaration_faults}
-use Rattle.java_types.specs.Files.{of_members, core_class}
-use Rattle.typing_law.proofs.Standing.{and_r}
-use Rattle.typing_law.proofs.TypeFacts as facts
+use Rattle.primitive_operators.specs.declared.scalar.Scalar.{Scalar}
+use Rattle.java_members.specs.Declarations.{declaration_faults}
+use Rattle.java_members.specs.Files.{of_members, core_class}
+use Rattle.core_tree.proofs.TypeFacts as facts
 use Rattle.typing_law.proofs.Tables.{env_with, program_with, same_below}
 use Rattle.typing_law.proofs.FileMethods.{all_names, all_selectors, nearest_in, symbols}
 use Rattle.typing_law.proofs.FileSelectors.{first_selector, one_place}
@@ -41,7 +41,8 @@ use Rattle.typing_law.proofs.WholeLists.{all_from}
 use Rattle.typing_law.proofs.WholeClasses.{class_there}
 use Rattle.typing_law.proofs.WholeFields.{row_above}
 use Rattle.typing_law.proofs.WholePicked.{PickedIn, picked_in}
-use Rattle.typing_law.proofs.WholeOverrides.{find_there, overrides_it, same_methods}
+use Rattle.typing_law.proofs.WholeOverrides.{overrides_it, same_methods}
+use Rattle.typing_law.proofs.Found.{find_there, empty_of_length}
 
 -- where each that is picked above has one that fits it, all do
 over_map : (p : Program) (f g : ℕ → Option ℕ) (ks : List ℕ) → ((k m : ℕ) → f k ≡ Some m → (it : ℕ) × (g k ≡ Some it) × IsTrue (same_signature p m it)) → IsTrue (overrides p (map f ks) (map g ks))
@@ -54,16 +55,12 @@ over_map p f g (k ∷ ks) each = cases (over_map p f g ks each) (f k) refl
         let it = each k m is in
         subst (λ o. IsTrue (overrides p (Some m ∷ map f ks) (o ∷ map g ks))) (sym it.1) (and_from (same_signature p m it.0) (overrides p (map f ks) (map g ks)) it.2 more)
 
-no_params : {X : Type 0} (xs : List X) → length xs ≡ 0 → xs ≡ []
-no_params [] is = refl
-no_params (x ∷ xs) is = absurd (omega arith)
-
 instance_of : (a b : Bool) → a ≡ false → beq a b ≡ true → b ≡ false
 instance_of true b is same = absurd (false≢true (sym is))
 instance_of false true is same = absurd (false≢true same)
 instance_of false false is same = refl
 
-module _ (tree : FileTree) (constants : List (ℕ × Option Literal)) (none : of_members (declaration_faults (env_with (table_of tree) tree [])) 18 tree.classes ≡ [])
+module _ (tree : FileTree) (constants : List (ℕ × Option Scalar)) (none : of_members (declaration_faults (env_with (table_of tree) tree [])) 18 tree.classes ≡ [])
     (is_table : IsTable (table_of tree)) (short : (c : ℕ) (row : ClassRow) → slice_get (table_of tree).classes c ≡ Some row → length row.line ≤ length (table_of tree).classes) (clear : Clear (Breaks tree)) where
   abbrev table : ClassTable
   table = table_of tree
@@ -179,9 +176,9 @@ module _ (tree : FileTree) (constants : List (ℕ × Option Literal)) (none : of
       let under = messages.below_throwable tree constants none is_table short clear c row d found.picked.least is (subst (λ l. IsTrue (list_any (λ a. a == d) l)) line found.below) (subst (λ l. IsTrue (list_any (λ a. a == 1) l)) line below) in
       let same_row : under.0 ≡ found.picked.row = same_Some _ _ (sym under.1 ∙ found.picked.is_row) in
       let answer = messages.overrides tree constants none is_table short clear d found.picked.row found.picked.found.place y found.picked.least found.picked.is_row (subst (λ r. IsTrue (list_any (λ a. a == 1) r.line)) same_row under.2) found.picked.found.is_row same in
-      let arity : length y.params ≡ 0 = eqb-true (length y.params) 0 (and_r (same_name y.name message_selector.name) (nat_eq (length y.params) 0) same) in
+      let arity : length y.params ≡ 0 = eqb-true (length y.params) 0 (second_so (same_name y.name message_selector.name) (nat_eq (length y.params) 0) same) in
       let method = found.picked.program.method in
-      let params : method.params ≡ [] = found.picked.program.is.params ∙ ap (declared_types (all_names tree constants none)) (no_params y.params arity) in
+      let params : method.params ≡ [] = found.picked.program.is.params ∙ ap (declared_types (all_names tree constants none)) (empty_of_length y.params arity) in
       ap is_message_method found.picked.program.found
       ∙ and_from (typed.same_types method.params []) (is_string method.answer) (ap (λ ts. typed.same_types ts []) params) (ap is_string (found.picked.program.is.answer ∙ answer) ∙ facts.is_string-Text)
 

@@ -10,7 +10,7 @@ use Rattle.core_tree.specs.declared.program.Class.{Class}
 use Rattle.core_tree.specs.BuiltIn.{is_built_in}
 use Rattle.core_tree.specs.Types.{line_of}
 use Rattle.core_tree.specs.WellTyped.{each_numbered}
-use Rattle.java_syntax.specs.declared.name.Ident.{Ident}
+use Rattle.token_reading.specs.declared.name.Ident.{Ident}
 use Rattle.java_syntax.specs.declared.class.ClassTree.{ClassTree}
 use Rattle.java_syntax.specs.declared.class.FileTree.{FileTree}
 use Rattle.class_table.specs.declared.declaration.Declaration.{Declaration}
@@ -24,23 +24,19 @@ use Rattle.class_table.specs.Rules.{Breaks, UnknownSuperclass}
 use Rattle.class_table.specs.Table.{row_of, table_of}
 use Rattle.class_table.specs.TableFacts.{IsTable, line_above}
 use Rattle.java_names.specs.Lookups.{is_below}
-use Rattle.java_exprs.specs.declared.literal.Literal.{Literal}
-use Rattle.java_types.specs.Declarations.{declaration_faults}
-use Rattle.java_types.specs.Files.{of_members, core_class}
+use Rattle.primitive_operators.specs.declared.scalar.Scalar.{Scalar}
+use Rattle.java_members.specs.Declarations.{declaration_faults}
+use Rattle.java_members.specs.Files.{of_members, core_class}
 use Rattle.typing_law.specs.Agrees.{IsOfFile}
 use Rattle.typing_law.proofs.Numbered.{not_built_in}
 use Rattle.typing_law.proofs.Tables.{row_at, env_with, program_with, length_core, class_core_at, same_superclass, same_below}
-use Rattle.typing_law.proofs.FileClasses.{declaration_at, tree_at}
+use Rattle.typing_law.proofs.FileClasses.{tree_at, behind}
 use Rattle.typing_law.proofs.FileMakers.{found_by}
 use Rattle.typing_law.proofs.FileMethods.{symbols}
 use Rattle.typing_law.proofs.FileLines.{line_is}
 use Rattle.typing_law.proofs.WholeLists.{get_front, numbered_at}
 
 -- ---- the declarations
-
-behind : (ks : List ClassTree) (j : ℕ) → slice_get (declared_of ks) (suc (suc (suc (suc (suc (suc (suc (suc (suc (suc (suc (suc (suc (suc (suc (suc (suc (suc j)))))))))))))))))) ≡ option_map (declaration (class_names ks) (18 + j)) (slice_get ks j)
-unfolding declared_of built_in
-behind ks j = declaration_at (class_names ks) 18 ks j
 
 -- the declaration of a class of the file
 pub declared_behind : (ks : List ClassTree) (j : ℕ) → slice_get (declared_of ks) (18 + j) ≡ option_map (declaration (class_names ks) (18 + j)) (slice_get ks j)
@@ -92,7 +88,7 @@ known_parent tree clear j k is = cases k.parent refl
           };
         }))))
 
-module _ (tree : FileTree) (constants : List (ℕ × Option Literal)) where
+module _ (tree : FileTree) (constants : List (ℕ × Option Scalar)) where
   abbrev table : ClassTable
   table = table_of tree
 

@@ -1,4 +1,5 @@
--- The fields of a file's classes in its program: those of the superclass come first, they are few, and each is well typed.
+-- The fields of a file's classes in its program: those of the superclass come first, they are few, and each is well
+-- typed.
 use Rattle.std.proofs.Common.{◌≡◌, ◌∙◌, ℕ, zero, suc, ◌+◌, ◌≤◌, Bool, true, false, ◌&&◌, ◌==◌, IsTrue, List, [], ◌∷◌, ◌++◌, length, map, take, reverse, Option, Some, None, option_map, slice_get, refl, subst, sym, ap, arith, if◌then◌else◌}
 use Rattle.std.specs.Prelude.{filter, nat_le, option_and_then, unwrap_or}
 use Rattle.std.specs.List.{flat_map, list_all, list_any}
@@ -18,34 +19,32 @@ use Rattle.java_syntax.specs.declared.class.ClassTree.{ClassTree}
 use Rattle.java_syntax.specs.declared.class.FileTree.{FileTree}
 use Rattle.class_table.specs.declared.row.ClassRow.{ClassRow}
 use Rattle.class_table.specs.declared.row.ClassTable.{ClassTable}
-use Rattle.class_table.specs.Declarations.{declared_of}
 use Rattle.class_table.specs.Faults.{Clear}
 use Rattle.class_table.specs.Members.{is_instance, is_static}
 use Rattle.class_table.specs.Rules.{Breaks}
-use Rattle.class_table.specs.Fields.{fields_along}
-use Rattle.class_table.specs.Table.{row_of, table_of}
+use Rattle.class_table.specs.Table.{table_of}
 use Rattle.class_table.specs.TableFacts.{IsTable, line_above}
 use Rattle.java_names.specs.Types.{declared_type}
 use Rattle.java_exprs.specs.declared.environment.Environment.{Environment}
-use Rattle.java_exprs.specs.declared.literal.Literal.{Literal}
+use Rattle.primitive_operators.specs.declared.scalar.Scalar.{Scalar}
 use Rattle.java_exprs.specs.Lookups.{unknown_type}
-use Rattle.java_types.specs.Bodies.{core_field, field_faults}
-use Rattle.java_types.specs.Declarations.{declaration_faults}
-use Rattle.java_types.specs.Files.{of_members, member_faults, core_class, fields_of, own_field, all_own_fields}
+use Rattle.java_members.specs.Bodies.{core_field, field_faults}
+use Rattle.java_members.specs.Declarations.{declaration_faults}
+use Rattle.java_members.specs.Files.{of_members, member_faults, core_class, fields_of, own_field, all_own_fields}
 use Rattle.typing_law.specs.Agrees.{Agrees, IsOfFile}
 use Rattle.typing_law.specs.Starts.{start_fits}
 use Rattle.typing_law.proofs.Members.{start_right}
 use Rattle.typing_law.proofs.Spelled.{declared_value}
-use Rattle.typing_law.proofs.Tables.{env_with, program_with, class_within, row_at, same_below}
+use Rattle.typing_law.proofs.Tables.{env_with, program_with, class_within, same_below}
 use Rattle.typing_law.proofs.FileClasses.{none_10, of_class}
 use Rattle.typing_law.proofs.FileMethods.{all_names}
 use Rattle.typing_law.proofs.FileLines.{line_is}
 use Rattle.typing_law.proofs.FileFields.{core_types, row_types, line_types, own_at}
-use Rattle.typing_law.proofs.FileMakers.{found_by}
 use Rattle.typing_law.proofs.WholeLists.{all_flat, all_line, along_line, map_each, none_of}
 use Rattle.typing_law.proofs.WholeClasses.{class_there, row_there, of_file}
+use Rattle.typing_law.proofs.FileMembers.{row_fields}
 
-module _ (tree : FileTree) (constants : List (ℕ × Option Literal)) (none : of_members (declaration_faults (env_with (table_of tree) tree [])) 18 tree.classes ≡ [])
+module _ (tree : FileTree) (constants : List (ℕ × Option Scalar)) (none : of_members (declaration_faults (env_with (table_of tree) tree [])) 18 tree.classes ≡ [])
     (is_table : IsTable (table_of tree)) (short : (c : ℕ) (row : ClassRow) → slice_get (table_of tree).classes c ≡ Some row → length row.line ≤ length (table_of tree).classes) where
   abbrev table : ClassTable
   table = table_of tree
@@ -105,19 +104,12 @@ module _ (tree : FileTree) (constants : List (ℕ × Option Literal)) (none : of
 
   -- ---- there are at most 255 (rule 9)
 
-  -- the fields of a row stand along its line
-  row_fields : (c : ℕ) (row : ClassRow) → slice_get table.classes c ≡ Some row → row.fields ≡ fields_along (declared_of tree.classes) row.line
-  row_fields c row is =
-      let declared = declared_of tree.classes in
-      let found = found_by (row_of declared (0 + c)) (slice_get declared c) row (sym (row_at declared 0 declared c) ∙ is) in
-      ap (λ r. r.fields) found.2 ∙ sym (ap (λ r. fields_along declared r.line) found.2)
-
   pub few_fields : (c : ℕ) (row : ClassRow) → slice_get table.classes c ≡ Some row → IsTrue (nat_le (length (fields_of env tree c)) 255)
   few_fields c row is =
       let names = all_names tree constants none in
       let fields = fields_of env tree c in
       let types : core_types fields ≡ row_types names row.fields =
-      ap core_types (fields_along_line c row is) ∙ line_types env tree row.line ∙ ap (row_types names) (sym (row_fields c row is)) in
+      ap core_types (fields_along_line c row is) ∙ line_types env tree row.line ∙ ap (row_types names) (sym (row_fields tree constants none c row is)) in
       let same : length fields ≡ length (filter is_instance row.fields) = sym (length-map fields (λ f. f.ty)) ∙ ap length types ∙ length-map (filter is_instance row.fields) (λ f. declared_type names f.ty) in
       let few = (is_table.rows c row is).few in
       le-leb (length fields) 255 (omega arith)
@@ -128,9 +120,6 @@ module _ (tree : FileTree) (constants : List (ℕ × Option Literal)) (none : of
       (bodies : of_members (member_faults (env_with (table_of tree) tree constants)) 18 tree.classes ≡ []) where
     -- an instance field that class d declares, in a class c below it
     own_typed : (c d : ℕ) (m : Member) → IsTrue (is_subclass p.classes c d) → IsOfFile env p d → declaration_faults (env_with table tree []) d m ≡ [] → member_faults env d m ≡ [] → IsTrue (list_all (is_field p c) (own_field env d m))
-    own_typed c d (member.Method m) below file declared body = refl
-    own_typed c d (member.Maker m) below file declared body = refl
-    own_typed c d member.Empty below file declared body = refl
     own_typed c d (member.Field f) below file declared body = cases (is_static f.mods) body
       where
         first : Environment
@@ -147,6 +136,7 @@ module _ (tree : FileTree) (constants : List (ℕ × Option Literal)) (none : of
             (and_from (is_value p it.ty) (is_subclass p.classes c d && start_fits p it) (declared_value (env_with table tree []) p (class_within table tree constants) f.ty known)
             (and_from (is_subclass p.classes c d) (start_fits p it) below (start_right env p agrees d f file known body)))
             refl
+    own_typed c d _ below file declared body = refl
 
     message_typed : (c : ℕ) → IsTrue (is_subclass p.classes c 1) → IsTrue (list_all (is_field p c) (message_field ∷ []))
     message_typed c below =
@@ -163,28 +153,12 @@ module _ (tree : FileTree) (constants : List (ℕ × Option Literal)) (none : of
 
     -- what class d declares, in a class c below it
     all_own : (c d : ℕ) → IsTrue (is_subclass p.classes c d) → IsTrue (list_all (is_field p c) (own d))
-    all_own c zero below = refl
     all_own c (suc zero) below = message_typed c below
-    all_own c (suc (suc zero)) below = refl
-    all_own c (suc (suc (suc zero))) below = refl
-    all_own c (suc (suc (suc (suc zero)))) below = refl
-    all_own c (suc (suc (suc (suc (suc zero))))) below = refl
-    all_own c (suc (suc (suc (suc (suc (suc zero)))))) below = refl
-    all_own c (suc (suc (suc (suc (suc (suc (suc zero))))))) below = refl
-    all_own c (suc (suc (suc (suc (suc (suc (suc (suc zero)))))))) below = refl
-    all_own c (suc (suc (suc (suc (suc (suc (suc (suc (suc zero))))))))) below = refl
-    all_own c (suc (suc (suc (suc (suc (suc (suc (suc (suc (suc zero)))))))))) below = refl
-    all_own c (suc (suc (suc (suc (suc (suc (suc (suc (suc (suc (suc zero))))))))))) below = refl
-    all_own c (suc (suc (suc (suc (suc (suc (suc (suc (suc (suc (suc (suc zero)))))))))))) below = refl
-    all_own c (suc (suc (suc (suc (suc (suc (suc (suc (suc (suc (suc (suc (suc zero))))))))))))) below = refl
-    all_own c (suc (suc (suc (suc (suc (suc (suc (suc (suc (suc (suc (suc (suc (suc zero)))))))))))))) below = refl
-    all_own c (suc (suc (suc (suc (suc (suc (suc (suc (suc (suc (suc (suc (suc (suc (suc zero))))))))))))))) below = refl
-    all_own c (suc (suc (suc (suc (suc (suc (suc (suc (suc (suc (suc (suc (suc (suc (suc (suc zero)))))))))))))))) below = refl
-    all_own c (suc (suc (suc (suc (suc (suc (suc (suc (suc (suc (suc (suc (suc (suc (suc (suc (suc zero))))))))))))))))) below = refl
     all_own c (suc (suc (suc (suc (suc (suc (suc (suc (suc (suc (suc (suc (suc (suc (suc (suc (suc (suc j)))))))))))))))))) below =
         let place : suc (suc (suc (suc (suc (suc (suc (suc (suc (suc (suc (suc (suc (suc (suc (suc (suc (suc j))))))))))))))))) ≡ 18 + j = omega arith in
         ap (λ found. list_all (is_field p c) (unwrap_or found [])) (own_at env 18 tree.classes j)
         ∙ of_tree c j (slice_get tree.classes j) refl (subst (λ d. IsTrue (is_subclass p.classes c d)) place below)
+    all_own c _ below = refl
 
     pub fields_typed : (c : ℕ) (row : ClassRow) → slice_get table.classes c ≡ Some row → IsTrue (list_all (is_field p c) (fields_of env tree c))
     fields_typed c row is =

@@ -1,4 +1,5 @@
--- The whole program of a file that breaks no rule is well typed. The parts of `IsWellTyped`, and the lemma that gives each:
+-- The whole program of a file that breaks no rule is well typed. The parts of `IsWellTyped`, and the lemma that gives
+-- each:
 --   few_classes   WholeClasses.few_classes: there are as many classes as rows of the table
 --   built_in      WholeBuiltIn.first_rows: the first rows are those of the built-in classes, with their fields
 --   classes       WholeProgram.class_typed, from
@@ -13,6 +14,7 @@
 --   methods       WholeMembers.methods_typed: declarations (rule 10) and bodies (rules 10 to 21)
 --   makers        WholeMembers.makers_typed: the same, and the constructors that are made
 --   main          WholeMain.main_there: `static void main` with one parameter of type `String[]` (rule 7)
+--   contracts     WholeContracts.contracts_typed: no method has one yet
 -- All together are WholeProgram.law.
 --
 -- This file: tests of all items of a list, and of what the members of all classes give.
@@ -23,12 +25,12 @@ use Rattle.std.proofs.lemmas.Bool.{and_from, or_left, or_right, eq-eqb}
 use Rattle.std.proofs.lemmas.Grind.{flat_map-append}
 use Rattle.std.proofs.lemmas.List.{reverse-append}
 use Rattle.std.proofs.lemmas.List.Folds.{list_all-append}
+use Rattle.std.specs.Cmp.{first_so, second_so}
 use Rattle.core_tree.specs.WellTyped.{each_numbered}
 use Rattle.java_syntax.specs.declared.class.Member.{Member}
 use Rattle.java_syntax.specs.declared.class.ClassTree.{ClassTree}
-use Rattle.java_types.specs.Files.{of_members, of_made, is_maker, where_none}
+use Rattle.java_members.specs.Files.{of_members, of_made, is_maker, where_none}
 use Rattle.typing_law.proofs.NoFaults.{empty_parts}
-use Rattle.typing_law.proofs.Standing.{and_l, and_r}
 use Rattle.typing_law.proofs.FieldRows.{Each}
 
 -- ---- each item
@@ -49,10 +51,10 @@ pub numbered_at : {X : Type 0} (test : ℕ → X → Bool) (n : ℕ) (xs : List 
 numbered_at test n [] k x all is = absurd (none-some x is)
 numbered_at test n (y ∷ xs) zero x all is =
     let here : n ≡ n + 0 = omega arith in
-    subst (λ m. IsTrue (test m x)) here (ap (test n) (sym (same_Some y x is)) ∙ and_l (test n y) (each_numbered test (suc n) xs) all)
+    subst (λ m. IsTrue (test m x)) here (ap (test n) (sym (same_Some y x is)) ∙ first_so (test n y) (each_numbered test (suc n) xs) all)
 numbered_at test n (y ∷ xs) (suc k) x all is =
     let e : suc n + k ≡ n + suc k = omega arith in
-    subst (λ m. IsTrue (test m x)) e (numbered_at test (suc n) xs k x (and_r (test n y) (each_numbered test (suc n) xs) all) is)
+    subst (λ m. IsTrue (test m x)) e (numbered_at test (suc n) xs k x (second_so (test n y) (each_numbered test (suc n) xs) all) is)
 
 -- two maps that are the same at each item
 pub map_each : {X Y : Type 0} (f g : X → Y) (xs : List X) → Each (λ x. f x ≡ g x) xs → map f xs ≡ map g xs

@@ -9,15 +9,16 @@ use Rattle.std.proofs.lemmas.Bool.{false≢true, eqb-true, and_from}
 use Rattle.std.proofs.lemmas.List.{map-append}
 use Rattle.std.proofs.lemmas.List.Folds.{list_any-append}
 use Rattle.std.proofs.lemmas.List.Quantifiers.{position-Some}
+use Rattle.std.specs.Cmp.{first_so, second_so}
 use Rattle.core_tree.specs.declared.ty.Ty.TheVariants as ty
 use Rattle.core_tree.specs.declared.ty.Ty.TheViews as type
 use Rattle.core_tree.specs.declared.program.Method.{Method}
 use Rattle.core_tree.specs.Types.{is_same_type}
 use Rattle.core_tree.specs.WellTyped.{same_types}
 use Rattle.core_tree.specs.WellTyped as typed
-use Rattle.java_syntax.specs.declared.name.BaseType.{BaseType}
-use Rattle.java_syntax.specs.declared.name.BaseType.TheVariants as base
-use Rattle.java_syntax.specs.declared.name.TypeTree.{TypeTree}
+use Rattle.token_reading.specs.declared.name.BaseType.{BaseType}
+use Rattle.token_reading.specs.declared.name.BaseType.TheVariants as base
+use Rattle.token_reading.specs.declared.name.TypeTree.{TypeTree}
 use Rattle.java_syntax.specs.declared.class.Member.{Member}
 use Rattle.java_syntax.specs.declared.class.Member.TheVariants as member
 use Rattle.java_syntax.specs.declared.class.MethodTree.{MethodTree}
@@ -34,12 +35,11 @@ use Rattle.class_table.specs.Rules as rules
 use Rattle.class_table.specs.Table.{table_of}
 use Rattle.java_names.specs.Types.{arrays, base_type, declared_types, named_type}
 use Rattle.java_exprs.specs.declared.environment.Environment.{Environment}
-use Rattle.java_exprs.specs.declared.literal.Literal.{Literal}
-use Rattle.java_types.specs.Bodies.{core_method}
-use Rattle.java_types.specs.Files.{of_members, own_method, method_tree, method_trees}
+use Rattle.primitive_operators.specs.declared.scalar.Scalar.{Scalar}
+use Rattle.java_members.specs.Bodies.{core_method}
+use Rattle.java_members.specs.Files.{of_members, own_method, method_tree, method_trees}
 use Rattle.java_names.proofs.NumberingLemmas.{is_some-position}
 use Rattle.typing_law.proofs.SameTypes.{same_refl}
-use Rattle.typing_law.proofs.Standing.{and_l, and_r}
 use Rattle.typing_law.proofs.Tables.{env_with, program_with}
 use Rattle.typing_law.proofs.FileMakers.{found_by}
 
@@ -51,9 +51,7 @@ record Numbered : Type 0 where
 
 own_numbered : ℕ → Member → List Numbered
 own_numbered c (member.Method m) = record { class = c; tree = m } ∷ []
-own_numbered c (member.Field f) = []
-own_numbered c (member.Maker m) = []
-own_numbered c member.Empty = []
+own_numbered c _ = []
 
 module _ (env : Environment) where
   abbrev resolved : Numbered → Method
@@ -63,9 +61,7 @@ module _ (env : Environment) where
   unfolding own_numbered
   own_resolved c [] = refl
   own_resolved c (member.Method m ∷ more) = ap (λ ms. core_method env c m ∷ ms) (own_resolved c more)
-  own_resolved c (member.Field f ∷ more) = own_resolved c more
-  own_resolved c (member.Maker m ∷ more) = own_resolved c more
-  own_resolved c (member.Empty ∷ more) = own_resolved c more
+  own_resolved c (_ ∷ more) = own_resolved c more
 
   all_resolved : (n : ℕ) (ks : List ClassTree) → map resolved (of_members own_numbered n ks) ≡ of_members (own_method env) n ks
   unfolding of_members
@@ -78,9 +74,7 @@ own_trees : (c : ℕ) (members : List Member) → map (λ m. m.tree) (flat_map (
 unfolding own_numbered
 own_trees c [] = refl
 own_trees c (member.Method m ∷ more) = ap (λ ms. m ∷ ms) (own_trees c more)
-own_trees c (member.Field f ∷ more) = own_trees c more
-own_trees c (member.Maker m ∷ more) = own_trees c more
-own_trees c (member.Empty ∷ more) = own_trees c more
+own_trees c (_ ∷ more) = own_trees c more
 
 all_trees : (n : ℕ) (ks : List ClassTree) → map (λ m. m.tree) (of_members own_numbered n ks) ≡ flat_map (λ k. flat_map method_tree k.members) ks
 unfolding of_members
@@ -107,9 +101,7 @@ own_main : (members : List Member) → list_any is_main (methods_in members) ≡
 unfolding tree_is_main
 own_main [] = refl
 own_main (member.Method m ∷ more) = ap (λ b. is_main (method_row m) || b) (own_main more)
-own_main (member.Field f ∷ more) = own_main more
-own_main (member.Maker m ∷ more) = own_main more
-own_main (member.Empty ∷ more) = own_main more
+own_main (_ ∷ more) = own_main more
 
 all_main : (known : List Name) (n : ℕ) (ks : List ClassTree) → list_any (λ d. list_any is_main d.methods) (declarations known n ks) ≡ list_any tree_is_main (flat_map (λ k. flat_map method_tree k.members) ks)
 all_main known n [] = refl
@@ -130,19 +122,17 @@ declared_main ks =
 -- ---- what `main` is
 
 string_base : (names : List Name) (b : BaseType) → rules.is_string b ≡ true → base_type names b ≡ Some ty.Text
-string_base names base.Int is = absurd (false≢true is)
-string_base names base.Boolean is = absurd (false≢true is)
 string_base names (base.Class c) is = ap (named_type names) (same_text c.name (codes "String") (sym is))
+string_base names _ is = absurd (false≢true is)
 
 string_array : (names : List Name) (types : List TypeTree) → is_string_array types ≡ true → declared_types names types ≡ ty.Array ty.Text ∷ []
-string_array names [] is = absurd (false≢true is)
-string_array names (t ∷ u ∷ more) is = absurd (false≢true is)
 string_array names (t ∷ []) is =
-    let dimensions = eqb-true t.dimensions 1 (and_r (rules.is_string t.base) (t.dimensions == 1) is) in
-    ap (λ b. unwrap_or (option_map (arrays t.dimensions) b) ty.Void ∷ []) (string_base names t.base (and_l (rules.is_string t.base) (t.dimensions == 1) is))
+    let dimensions = eqb-true t.dimensions 1 (second_so (rules.is_string t.base) (t.dimensions == 1) is) in
+    ap (λ b. unwrap_or (option_map (arrays t.dimensions) b) ty.Void ∷ []) (string_base names t.base (first_so (rules.is_string t.base) (t.dimensions == 1) is))
     ∙ ap (λ n. arrays n ty.Text ∷ []) dimensions
+string_array names _ is = absurd (false≢true is)
 
-module _ (tree : FileTree) (constants : List (ℕ × Option Literal)) (clear : Clear (Breaks tree)) where
+module _ (tree : FileTree) (constants : List (ℕ × Option Scalar)) (clear : Clear (Breaks tree)) where
   abbrev table : ClassTable
   table = table_of tree
 
@@ -160,8 +150,8 @@ module _ (tree : FileTree) (constants : List (ℕ × Option Literal)) (clear : C
       let b = is_static row.mods in
       let d = is_none row.answer in
       let e = is_string_array row.params in
-      let array = string_array env.symbols.names row.params (and_r ((a && b) && d) e is) in
-      let static = and_r a b (and_l (a && b) d (and_l ((a && b) && d) e is)) in
+      let array = string_array env.symbols.names row.params (second_so ((a && b) && d) e is) in
+      let static = second_so a b (first_so (a && b) d (first_so ((a && b) && d) e is)) in
       and_from (not (not (is_static m.mods))) (same_types (declared_types env.symbols.names (types_of m.params)) (type.Array ty.Text ∷ []))
       (ap (λ s. not (not s)) static)
       (ap (λ ts. same_types ts (type.Array ty.Text ∷ [])) array ∙ and_from (is_same_type (ty.Array ty.Text) (type.Array ty.Text)) true (same_refl (ty.Array ty.Text)) refl)

@@ -10,19 +10,20 @@ use Rattle.java_syntax.specs.declared.class.Member.{Member}
 use Rattle.java_syntax.specs.declared.class.Member.TheVariants as member
 use Rattle.java_syntax.specs.declared.class.ClassTree.{ClassTree}
 use Rattle.java_syntax.specs.declared.class.FileTree.{FileTree}
-use Rattle.java_syntax.specs.declared.class.ParamTree.{ParamTree}
+use Rattle.token_reading.specs.declared.name.ParamTree.{ParamTree}
 use Rattle.class_table.specs.declared.row.ClassTable.{ClassTable}
 use Rattle.class_table.specs.Faults.{Clear}
 use Rattle.class_table.specs.Rules.{Breaks}
 use Rattle.class_table.specs.Table.{table_of}
 use Rattle.java_names.specs.declared.scope.Scope.{Scope}
 use Rattle.java_exprs.specs.declared.environment.Environment.{Environment}
-use Rattle.java_exprs.specs.declared.literal.Literal.{Literal}
+use Rattle.primitive_operators.specs.declared.scalar.Scalar.{Scalar}
 use Rattle.java_exprs.specs.Lookups.{unknown_type}
 use Rattle.java_statements.specs.Statements.{again_10, exception_10}
-use Rattle.java_types.specs.Bodies.{core_method, core_maker, made_maker}
-use Rattle.java_types.specs.Declarations.{answer_10, declaration_faults, maker_scope, method_scope, params_10, with_param}
-use Rattle.java_types.specs.Files.{of_members, of_made, is_maker, where_none, member_faults, made_faults, own_method, own_maker}
+use Rattle.java_members.specs.Bodies.{core_method, core_maker, made_maker}
+use Rattle.java_members.specs.Declarations.{answer_10, declaration_faults, params_10, with_param}
+use Rattle.java_names.specs.Scope.{maker_scope, method_scope}
+use Rattle.java_members.specs.Files.{of_members, of_made, is_maker, where_none, member_faults, made_faults, own_method, own_maker}
 use Rattle.typing_law.specs.Agrees.{Agrees, IsOfFile}
 use Rattle.typing_law.proofs.Members.{method_right, maker_right, made_right}
 use Rattle.typing_law.proofs.NoFaults.{empty_parts}
@@ -31,7 +32,7 @@ use Rattle.typing_law.proofs.FileClasses.{none_10, of_class}
 use Rattle.typing_law.proofs.WholeLists.{all_members, all_made, none_made, none_of}
 use Rattle.typing_law.proofs.WholeClasses.{of_file}
 
-module _ (tree : FileTree) (constants : List (ℕ × Option Literal)) (none : of_members (declaration_faults (env_with (table_of tree) tree [])) 18 tree.classes ≡ []) (clear : Clear (Breaks tree))
+module _ (tree : FileTree) (constants : List (ℕ × Option Scalar)) (none : of_members (declaration_faults (env_with (table_of tree) tree [])) 18 tree.classes ≡ []) (clear : Clear (Breaks tree))
     (agrees : Agrees (env_with (table_of tree) tree constants) (program_with (table_of tree) tree constants)) where
   abbrev table : ClassTable
   table = table_of tree
@@ -58,14 +59,12 @@ module _ (tree : FileTree) (constants : List (ℕ × Option Literal)) (none : of
   -- ---- methods
 
   method_typed : (c : ℕ) (m : Member) → IsOfFile env p c → declaration_faults first c m ≡ [] → member_faults env c m ≡ [] → IsTrue (list_all (is_method p) (own_method env c m))
-  method_typed c (member.Field f) file declared body = refl
-  method_typed c (member.Maker m) file declared body = refl
-  method_typed c member.Empty file declared body = refl
   method_typed c (member.Method m) file declared body =
       let here = none_10 first p (class_within table tree constants) c (member.Method m) declared in
-      let parts = empty_parts (answer_10 first m.answer) (params_10 first m.params (method_scope first c m) ++ flat_map (exception_10 first) m.throws) here in
-      let params = (empty_parts (params_10 first m.params (method_scope first c m)) (flat_map (exception_10 first) m.throws) parts.1).0 in
-      and_from (is_method p (core_method env c m)) true (method_right env p agrees c m file parts.0 (sym (same_params m.params (method_scope first c m)) ∙ params) body) refl
+      let parts = empty_parts (answer_10 first m.answer) (params_10 first m.params (method_scope first.symbols c m) ++ flat_map (exception_10 first) m.throws) here in
+      let params = (empty_parts (params_10 first m.params (method_scope first.symbols c m)) (flat_map (exception_10 first) m.throws) parts.1).0 in
+      and_from (is_method p (core_method env c m)) true (method_right env p agrees c m file parts.0 (sym (same_params m.params (method_scope first.symbols c m)) ∙ params) body) refl
+  method_typed c _ file declared body = refl
 
   pub methods_typed : of_members (member_faults env) 18 tree.classes ≡ [] → IsTrue (list_all (is_method p) p.methods)
   methods_typed bodies = all_members (is_method p) (own_method env) 18 tree.classes (λ j k is_k i m is_m.
@@ -75,13 +74,11 @@ module _ (tree : FileTree) (constants : List (ℕ × Option Literal)) (none : of
   -- ---- constructors
 
   maker_typed : (c : ℕ) (m : Member) → IsOfFile env p c → declaration_faults first c m ≡ [] → member_faults env c m ≡ [] → IsTrue (list_all (typed.is_maker p) (own_maker env c m))
-  maker_typed c (member.Field f) file declared body = refl
-  maker_typed c (member.Method m) file declared body = refl
-  maker_typed c member.Empty file declared body = refl
   maker_typed c (member.Maker m) file declared body =
       let here = none_10 first p (class_within table tree constants) c (member.Maker m) declared in
       let params = (empty_parts (params_10 first m.params (maker_scope c)) (flat_map (exception_10 first) m.throws) here).0 in
       and_from (typed.is_maker p (core_maker env c m)) true (maker_right env p agrees c m file (sym (same_params m.params (maker_scope c)) ∙ params) body) refl
+  maker_typed c _ file declared body = refl
 
   -- a constructor that is made for a class without one
   made_typed : (c : ℕ) (k : ClassTree) (makers : List Member) → IsOfFile env p c → where_none makers (made_faults env c k) ≡ [] → IsTrue (list_all (typed.is_maker p) (where_none makers (made_maker env c ∷ [])))

@@ -1,12 +1,12 @@
 -- A method that overrides another has the same parameter types and result (rule 6).
-use Rattle.std.proofs.Common.{◌≡◌, ◌∙◌, inl, inr, ℕ, zero, suc, ◌+◌, Bool, true, false, not, ◌||◌, ◌&&◌, ◌==◌, cond, IsTrue, List, [], ◌∷◌, drop, Option, Some, None, option_map, slice_get, refl, subst, sym, ap, arith}
+use Rattle.std.proofs.Common.{◌≡◌, ◌∙◌, inl, inr, ℕ, ◌+◌, Bool, true, false, not, ◌&&◌, ◌==◌, IsTrue, List, [], ◌∷◌, drop, Option, Some, None, option_map, slice_get, refl, subst, sym, ap, arith}
 use Rattle.std.specs.Prelude.{find, option_and_then, unwrap_or}
 use Rattle.std.specs.Bool.{beq}
 use Rattle.std.specs.List.{list_all, list_any}
 use Rattle.std.specs.Option.{option_map_or}
 use Rattle.std.specs.Cmp.Lexicographic.{same_text}
-use Rattle.std.proofs.lemmas.Option.{none-some, same_Some}
-use Rattle.std.proofs.lemmas.Bool.{false≢true, and_from, eqb-true, or_left, or_right}
+use Rattle.std.proofs.lemmas.Bool.{false≢true, and_from, eqb-true}
+use Rattle.std.specs.Cmp.{first_so, second_so}
 use Rattle.core_tree.specs.declared.ty.Ty.{Ty}
 use Rattle.core_tree.specs.declared.ty.Ty.TheVariants as ty
 use Rattle.core_tree.specs.declared.program.Method.{Method}
@@ -14,9 +14,9 @@ use Rattle.core_tree.specs.declared.program.Program.{Program}
 use Rattle.core_tree.specs.Types.{is_same_type}
 use Rattle.core_tree.specs.WellTyped.{same_signature}
 use Rattle.core_tree.specs.WellTyped as typed
-use Rattle.java_syntax.specs.declared.name.BaseType.{BaseType}
-use Rattle.java_syntax.specs.declared.name.BaseType.TheVariants as base
-use Rattle.java_syntax.specs.declared.name.TypeTree.{TypeTree}
+use Rattle.token_reading.specs.declared.name.BaseType.{BaseType}
+use Rattle.token_reading.specs.declared.name.BaseType.TheVariants as base
+use Rattle.token_reading.specs.declared.name.TypeTree.{TypeTree}
 use Rattle.java_syntax.specs.declared.class.FileTree.{FileTree}
 use Rattle.class_table.specs.declared.declaration.Declaration.{Declaration}
 use Rattle.class_table.specs.declared.row.ClassRow.{ClassRow}
@@ -33,9 +33,9 @@ use Rattle.class_table.specs.Table.{row_of, table_of}
 use Rattle.java_names.specs.Selectors.{same_selector, selector_of}
 use Rattle.java_names.specs.Types.{answer_type, arrays, base_type, declared_type, declared_types, named_type}
 use Rattle.typing_law.proofs.SameTypes.{same_refl}
-use Rattle.typing_law.proofs.Standing.{and_l, and_r}
 use Rattle.typing_law.proofs.Tables.{row_at}
 use Rattle.typing_law.proofs.FileMakers.{found_by}
+use Rattle.typing_law.proofs.Found.{any_of}
 
 -- ---- types that are spelled alike are the same
 
@@ -44,25 +44,20 @@ module _ (names : List Name) where
   same_bases base.Int base.Int same = refl
   same_bases base.Boolean base.Boolean same = refl
   same_bases (base.Class c) (base.Class d) same = ap (named_type names) (same_text c.name d.name (sym same))
-  same_bases base.Int base.Boolean same = absurd (false≢true same)
-  same_bases base.Int (base.Class d) same = absurd (false≢true same)
-  same_bases base.Boolean base.Int same = absurd (false≢true same)
-  same_bases base.Boolean (base.Class d) same = absurd (false≢true same)
-  same_bases (base.Class c) base.Int same = absurd (false≢true same)
-  same_bases (base.Class c) base.Boolean same = absurd (false≢true same)
+  same_bases _ _ same = absurd (false≢true same)
 
   same_declared : (a b : TypeTree) → same_type a b ≡ true → declared_type names a ≡ declared_type names b
   same_declared a b same =
-      ap (λ n. unwrap_or (option_map (arrays n) (base_type names a.base)) ty.Void) (eqb-true a.dimensions b.dimensions (and_r (same_base a.base b.base) (a.dimensions == b.dimensions) same))
-      ∙ ap (λ t. unwrap_or (option_map (arrays b.dimensions) t) ty.Void) (same_bases a.base b.base (and_l (same_base a.base b.base) (a.dimensions == b.dimensions) same))
+      ap (λ n. unwrap_or (option_map (arrays n) (base_type names a.base)) ty.Void) (eqb-true a.dimensions b.dimensions (second_so (same_base a.base b.base) (a.dimensions == b.dimensions) same))
+      ∙ ap (λ t. unwrap_or (option_map (arrays b.dimensions) t) ty.Void) (same_bases a.base b.base (first_so (same_base a.base b.base) (a.dimensions == b.dimensions) same))
 
   pub same_params : (xs ys : List TypeTree) → same_types xs ys ≡ true → declared_types names xs ≡ declared_types names ys
   same_params [] [] same = refl
   same_params [] (y ∷ ys) same = absurd (false≢true same)
   same_params (x ∷ xs) [] same = absurd (false≢true same)
   same_params (x ∷ xs) (y ∷ ys) same =
-      ap (λ t. t ∷ declared_types names xs) (same_declared x y (and_l (same_type x y) (same_types xs ys) same))
-      ∙ ap (λ ts. declared_type names y ∷ ts) (same_params xs ys (and_r (same_type x y) (same_types xs ys) same))
+      ap (λ t. t ∷ declared_types names xs) (same_declared x y (first_so (same_type x y) (same_types xs ys) same))
+      ∙ ap (λ ts. declared_type names y ∷ ts) (same_params xs ys (second_so (same_type x y) (same_types xs ys) same))
 
   pub same_answers : (a b : Option TypeTree) → same_answer a b ≡ true → answer_type names a ≡ answer_type names b
   same_answers None None same = refl
@@ -82,25 +77,6 @@ same_methods p m k a b is_a is_b params answer =
     ∙ ap (λ found. option_map_or (λ b. typed.same_types a.params b.params && is_same_type a.answer b.answer) found false) is_b
     ∙ and_from (typed.same_types a.params b.params) (is_same_type a.answer b.answer)
     (subst (λ ts. IsTrue (typed.same_types a.params ts)) params (types_refl a.params)) (subst (λ t. IsTrue (is_same_type a.answer t)) answer (same_refl a.answer))
-
--- ---- what is found
-
-pub find_there : {X : Type 0} (test : X → Bool) (xs : List X) (i : ℕ) (x : X) → slice_get xs i ≡ Some x → test x ≡ true → (y : X) × (find test xs ≡ Some y)
-find_there test [] i x is passes = absurd (none-some x is)
-find_there test (z ∷ xs) zero x is passes = (z, ap (λ b. cond b (Some z) (find test xs)) (ap test (same_Some z x is) ∙ passes))
-find_there test (z ∷ xs) (suc i) x is passes = cases (test z) (find_there test xs i x is passes)
-  where
-    cases : (b : Bool) → (y : _) × (find test xs ≡ Some y) → (y : _) × (cond b (Some z) (find test xs) ≡ Some y)
-    cases true more = (z, refl)
-    cases false more = more
-
-any_of : (test : ℕ → Bool) (xs : List ℕ) (e : ℕ) → IsTrue (list_any (λ a. a == e) xs) → test e ≡ true → list_any test xs ≡ true
-any_of test [] e is passes = absurd (false≢true is)
-any_of test (x ∷ xs) e is passes = cases (any_of test xs e) (x == e) refl is
-  where
-    cases : (IsTrue (list_any (λ a. a == e) xs) → test e ≡ true → list_any test xs ≡ true) → (b : Bool) → (x == e) ≡ b → IsTrue (b || list_any (λ a. a == e) xs) → list_any test (x ∷ xs) ≡ true
-    cases more true same is = or_left (test x) (list_any test xs) (ap test (eqb-true x e same) ∙ passes)
-    cases more false other is = or_right (test x) (list_any test xs) (more is passes)
 
 module _ (tree : FileTree) (clear : Clear (Breaks tree)) where
   abbrev table : ClassTable
@@ -175,11 +151,11 @@ module _ (tree : FileTree) (clear : Clear (Breaks tree)) where
           let k4 = beq (is_static y.mods) (is_static a.mods) in
           let k5 = not (is_private y.mods) in
           let k6 = list_all (is_allowed names declared a.throws) y.throws in
-          let front = and_l (((k1 && k2) && k3) && k4) k5 (and_l ((((k1 && k2) && k3) && k4) && k5) k6 is) in
-          let three = and_l ((k1 && k2) && k3) k4 front in
-          let params = and_r k1 k2 (and_l (k1 && k2) k3 three) in
-          let answer = and_r (k1 && k2) k3 three in
+          let front = first_so (((k1 && k2) && k3) && k4) k5 (first_so ((((k1 && k2) && k3) && k4) && k5) k6 is) in
+          let three = first_so ((k1 && k2) && k3) k4 front in
+          let params = second_so k1 k2 (first_so (k1 && k2) k3 three) in
+          let answer = second_so (k1 && k2) k3 three in
           record {
-            static = and_r ((k1 && k2) && k3) k4 front;
+            static = second_so ((k1 && k2) && k3) k4 front;
             types = λ names. (same_params names y.params a.params params, same_answers names y.answer a.answer answer);
           }

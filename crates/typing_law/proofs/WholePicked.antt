@@ -12,14 +12,15 @@ use Rattle.class_table.specs.Members.{is_static}
 use Rattle.class_table.specs.Names.{Name}
 use Rattle.class_table.specs.Table.{table_of}
 use Rattle.java_names.specs.declared.symbol.Selector.{Selector}
-use Rattle.java_names.specs.BuiltIn.{is_built_in, in_file}
+use Rattle.core_tree.specs.BuiltIn.{is_built_in}
+use Rattle.java_names.specs.BuiltIn.{in_file}
 use Rattle.java_names.specs.Chosen.{picked, first_picked, methods_at}
 use Rattle.java_names.specs.Numbers.{first_numbers}
 use Rattle.java_names.specs.Selectors.{same_selector, selector_of}
 use Rattle.java_names.specs.Symbols.{class_symbol, method_symbol, method_symbols}
-use Rattle.java_exprs.specs.declared.literal.Literal.{Literal}
-use Rattle.java_types.specs.Declarations.{declaration_faults}
-use Rattle.java_types.specs.Files.{of_members}
+use Rattle.primitive_operators.specs.declared.scalar.Scalar.{Scalar}
+use Rattle.java_members.specs.Declarations.{declaration_faults}
+use Rattle.java_members.specs.Files.{of_members}
 use Rattle.typing_law.proofs.Tables.{numbers_at, env_with, class_symbol_at}
 use Rattle.typing_law.proofs.FileMethods.{InProgram, in_program, all_names, all_selectors, first_method, symbols}
 use Rattle.typing_law.proofs.FileSelectors.{same_parts, one_place}
@@ -55,7 +56,8 @@ module _ (names : List Name) (all : List Selector) (owner : ℕ) (k : ℕ) where
       ap (λ b. option_and_then (λ s. if s == k then number else None) (if b then None else position (same_selector (selector_of m)) all)) instance
       ∙ ap (option_and_then (λ s. if s == k then number else None)) place ∙ ap (λ b. if b then number else None) (eq-eqb k k refl)
 
-  -- the method that is picked among some that are numbered on from a number: the first instance method with that selector
+  -- the method that is picked among some that are numbered on from a number: the first instance method with that
+  -- selector
   pub record Picked (number : ℕ) (ms : List MethodRow) (it : ℕ) : Type 0 where
     pub place : ℕ
     pub row : MethodRow
@@ -117,7 +119,7 @@ module _ (names : List Name) (all : List Selector) (owner : ℕ) (k : ℕ) where
       nothing None = refl
       nothing (Some s) = neither (s == k)
 
-module _ (tree : FileTree) (constants : List (ℕ × Option Literal)) (none : of_members (declaration_faults (env_with (table_of tree) tree [])) 18 tree.classes ≡ []) where
+module _ (tree : FileTree) (constants : List (ℕ × Option Scalar)) (none : of_members (declaration_faults (env_with (table_of tree) tree [])) 18 tree.classes ≡ []) where
   abbrev table : ClassTable
   table = table_of tree
 

@@ -7,7 +7,7 @@ use Rattle.core_tree.specs.declared.program.Program.{Program}
 use Rattle.core_tree.specs.Types.{line_of}
 use Rattle.core_tree.specs.Typing.{is_throwable, chosen_method}
 use Rattle.core_tree.specs.WellTyped.{IsWellTyped, is_class, is_field, is_chosen, chosen_above, is_message_method, overrides}
-use Rattle.java_syntax.specs.declared.fault.Fault.{Fault}
+use Rattle.token_reading.specs.declared.fault.Fault.{Fault}
 use Rattle.java_syntax.specs.declared.class.FileTree.{FileTree}
 use Rattle.class_table.specs.declared.row.ClassRow.{ClassRow}
 use Rattle.class_table.specs.declared.row.ClassTable.{ClassTable}
@@ -15,9 +15,9 @@ use Rattle.class_table.specs.Faults.{Clear}
 use Rattle.class_table.specs.Rules.{Breaks}
 use Rattle.class_table.specs.Table.{table_of}
 use Rattle.class_table.specs.TableFacts.{IsTable}
-use Rattle.java_exprs.specs.declared.literal.Literal.{Literal}
-use Rattle.java_types.specs.Declarations.{declaration_faults}
-use Rattle.java_types.specs.Files.{of_members, of_made, member_faults, made_faults, core_class, declared_faults, body_faults, then_faults, faults_of, env_of, reading_of, program_of}
+use Rattle.primitive_operators.specs.declared.scalar.Scalar.{Scalar}
+use Rattle.java_members.specs.Declarations.{declaration_faults}
+use Rattle.java_members.specs.Files.{of_members, of_made, member_faults, made_faults, core_class, declared_faults, body_faults, then_faults, faults_of, env_of, reading_of, program_of}
 use Rattle.typing_law.specs.Agrees.{Agrees}
 use Rattle.token_law.specs.Tokens.{HasOwnTokens}
 use Rattle.typing_law.proofs.FileAgrees.{file_agrees, short_lines}
@@ -29,9 +29,10 @@ use Rattle.typing_law.proofs.WholeBuiltIn.{first_rows}
 use Rattle.typing_law.proofs.WholeFields.{all_inherited, few_fields, fields_typed}
 use Rattle.typing_law.proofs.WholeMembers.{methods_typed, makers_typed}
 use Rattle.typing_law.proofs.WholeMain.{main_there}
+use Rattle.typing_law.proofs.WholeContracts.{contracts_typed}
 use Rattle.typing_law.proofs.WholeChosen.{all_chosen, overrides_right, message_right}
 
-module _ (tree : FileTree) (constants : List (ℕ × Option Literal)) (is_table : IsTable (table_of tree)) (clear : Clear (Breaks tree))
+module _ (tree : FileTree) (constants : List (ℕ × Option Scalar)) (is_table : IsTable (table_of tree)) (clear : Clear (Breaks tree))
     (none : of_members (declaration_faults (env_with (table_of tree) tree [])) 18 tree.classes ≡ [])
     (bodies : of_members (member_faults (env_with (table_of tree) tree constants)) 18 tree.classes ≡ [])
     (made : of_made (made_faults (env_with (table_of tree) tree constants)) 18 tree.classes ≡ [])
@@ -70,15 +71,13 @@ module _ (tree : FileTree) (constants : List (ℕ × Option Literal)) (is_table 
     methods = methods_typed tree constants none clear agrees bodies;
     makers = makers_typed tree constants none clear agrees bodies made;
     main = main_there tree constants clear;
+    contracts = contracts_typed tree constants;
   }
 
 -- where no declaration breaks a rule, nothing but bodies can
 both_empty : (xs ys : List Fault) → then_faults xs ys ≡ [] → (xs ≡ []) × (ys ≡ [])
 both_empty [] ys none = (refl, none)
-both_empty (x ∷ xs) ys none = absurd (no_item none)
-  where
-    no_item : ◌≡◌ {A = List Fault} (x ∷ xs) [] → ⊥
-    no_item none = cc
+both_empty (x ∷ xs) ys none = absurd (cc)
 
 -- the program of a file that breaks no rule is well typed, where its symbols agree with it
 pub file_typed : (tree : FileTree) → IsTable (table_of tree) → Clear (Breaks tree) → faults_of (table_of tree) tree ≡ [] → Agrees (env_of (table_of tree) tree) (program_of (table_of tree) tree) → IsWellTyped (program_of (table_of tree) tree)

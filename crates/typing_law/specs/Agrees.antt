@@ -17,16 +17,16 @@ use Rattle.java_names.specs.declared.symbol.MethodSymbol.{MethodSymbol}
 use Rattle.java_names.specs.declared.symbol.MakerSymbol.{MakerSymbol}
 use Rattle.java_names.specs.Lookups.{is_below}
 use Rattle.java_exprs.specs.declared.environment.Environment.{Environment}
-use Rattle.java_exprs.specs.declared.literal.Literal.{Literal}
-use Rattle.java_exprs.specs.declared.literal.Literal.TheVariants as literal
+use Rattle.primitive_operators.specs.declared.scalar.Scalar.{Scalar}
+use Rattle.primitive_operators.specs.declared.scalar.Scalar.TheVariants as scalar
 use Rattle.java_exprs.specs.Lookups.{superclass_of, member_of, method_of, maker_of, class_named, constant_at, local_named}
 
 -- a literal is of a type; null is a String
-abbrev pub is_literal_of : Literal → Ty → Bool
-is_literal_of (literal.Int n) t = is_int t && is_int_number n
-is_literal_of (literal.Bool b) t = is_boolean t
-is_literal_of (literal.Text text) t = is_string t
-is_literal_of literal.Null t = is_string t
+abbrev pub is_literal_of : Scalar → Ty → Bool
+is_literal_of (scalar.Int n) t = is_int t && is_int_number n
+is_literal_of (scalar.Bool b) t = is_boolean t
+is_literal_of (scalar.Text text) t = is_string t
+is_literal_of scalar.Null t = is_string t
 
 -- a field or constant of class c
 pub record AgreesOnField (env : Environment) (p : Program) (c : ℕ) (m : FieldSymbol) : Type 0 where
@@ -34,7 +34,7 @@ pub record AgreesOnField (env : Environment) (p : Program) (c : ℕ) (m : FieldS
   -- an instance field is that field of the class
   pub field : (place : ℕ) → m.place ≡ Some place → field_type p c place ≡ Some m.ty
   -- a constant has a value of its type
-  pub constant : m.place ≡ None → (v : Literal) × (constant_at env m.at ≡ Some v) × IsTrue (is_literal_of v m.ty)
+  pub constant : m.place ≡ None → (v : Scalar) × (constant_at env m.at ≡ Some v) × IsTrue (is_literal_of v m.ty)
 
 -- a static method that is called by its number
 pub record AgreesOnStatic (p : Program) (m : MethodSymbol) : Type 0 where

@@ -7,14 +7,14 @@ use Rattle.core_tree.specs.declared.expr.Expr.TheOpen.{Expr-F as Core-F}
 use Rattle.core_tree.specs.declared.program.Program.{Program}
 use Rattle.core_tree.specs.Types.{is_null, is_value_type}
 use Rattle.core_tree.specs.Typing.{Scope, PartType, has_text, type_of}
-use Rattle.java_exprs.specs.declared.typed.Denotation.{Denotation}
-use Rattle.java_exprs.specs.declared.typed.Denotation.TheVariants as denotes
+use Rattle.java_denotes.specs.declared.denotation.Denotation.{Denotation}
+use Rattle.java_denotes.specs.declared.denotation.Denotation.TheVariants as denotes
 use Rattle.java_exprs.specs.declared.typed.Form.{Form}
 use Rattle.java_exprs.specs.declared.typed.Form.TheVariants as form
 use Rattle.java_exprs.specs.Attr.{Attr}
 
--- a value of the first type stands for one of the second: it is the same type, or null for a String, since a constant of
--- type String may be null
+-- a value of the first type stands for one of the second: it is the same type, or null for a String, since a constant
+-- of type String may be null
 abbrev pub StandsFor : Ty → Ty → Type 0
 StandsFor actual t = (actual ≡ t) ⊎ ((t ≡ ty.Text) × (actual ≡ ty.Null))
 

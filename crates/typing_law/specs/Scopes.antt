@@ -22,7 +22,7 @@ pub record IsKnown (env : Environment) (p : Program) (s : Scope) : Type 0 where
   pub superclass : (b : ℕ) × (superclass_of env s.class ≡ Some b)
   pub local : (x : Name) (n : ℕ) → local_named s x ≡ Some n → HasSlot p s n
 
--- a scope behind another in the same body: slots are only added
+-- a scope after another in the same body: slots are only added
 pub record GoesTo (env : Environment) (p : Program) (s : Scope) (after : Scope) : Type 0 where
   pub class : after.class ≡ s.class
   pub is_static : after.is_static ≡ s.is_static

@@ -1,4 +1,4 @@
--- The characters of a text in UTF-8, one behind the other.
+-- The characters of a text in UTF-8, one after the other.
 use Rattle.std.proofs.Common.{◌≡◌, ◌∙◌, ℕ, ◌<◌, ◌+◌, List, [], ◌∷◌, ◌++◌, length, take, get_or, ap, sym}
 use Rattle.std.specs.Prelude.{encode_utf8, encode_utf8_all}
 use Rattle.std.proofs.lemmas.List.{take_more, append-nil, append_assoc}

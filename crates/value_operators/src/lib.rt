@@ -1,17 +1,16 @@
 //! What operators, literals, concatenations and prints make of values.
 //!
-//! The definitions are those of `evaluation`'s `specs/Values`, and each call is total: operands of other types than the node
-//! asks for give `NoMeaning`. Operators on ints, booleans and objects take constant time and no memory; characters are
-//! copied only where a new text is made.
+//! The definitions are those of `evaluation`'s `specs/Values`, and each call is total: operands of other types than the
+//! node asks for give `NoMeaning`. Operators on ints, booleans and objects take constant time and no memory; characters
+//! are copied only where a new text is made. `primitive_operators` has the operators on values that aren't objects.
 //!
-//! Read `operators` with `ints` and `equality`, then `texts` and `printing`, which stand on `shown`.
+//! Read `operators` with `equality` and `scalars`, then `texts` and `printing`.
 #![tactic(auto)]
 
 mod equality;
-mod ints;
 mod operators;
 mod printing;
-mod shown;
+mod scalars;
 mod texts;
 
 pub use operators::{binary_value, unary_value, update_value};

@@ -3,7 +3,7 @@ ghost use Rattle.heap_arena.specs.declared.cell.Cell.TheVariants as value;
 ghost use Rattle.evaluation.specs.declared.computed.Computed.TheVariants as computed;
 ghost use Rattle.evaluation.specs.Values.{concatenated, literal, text_equals, text_length, units_value};
 
-use crate::shown::{push_shown, shown_units};
+use crate::scalars::scalar;
 use core_tree::{BuiltIn, OutOfMemory, Text};
 use evaluation::Computed;
 use heap_arena::Cell;
@@ -23,28 +23,23 @@ pub fn literal(text: &Text) -> Result<Computed, OutOfMemory>
     Ok(Computed::Gives(Cell::Text(text.share()?)))
 }
 
-/// The texts of two values, one behind the other (JLS 15.18.1): ints in decimal, `true` and `false`, `null`, and the
+/// The texts of two values, one after the other (JLS 15.18.1): ints in decimal, `true` and `false`, `null`, and the
 /// characters of a text. More than 1,048,576 code units are `TooLong`, which is found before memory is asked for; a
 /// reference gives `NoMeaning`. Each character is copied once.
-#[tactic(auto, using(crate::proofs::Joined::joined_text))]
 pub fn concatenated(alloc: Global, a: &Cell<u32>, b: &Cell<u32>) -> Result<Computed, OutOfMemory>
     ensures value { IfOk result (λ it. it ≡ concatenated a.now b.now) }
     ensures memory { IsErr result → (t : List ℕ) × (concatenated a.now b.now ≡ computed.Gives (value.Text t)) }
 {
-    let Some(first) = shown_units(a) else {
+    let Some(first) = scalar(a) else {
         return Ok(Computed::NoMeaning);
     };
-    let Some(second) = shown_units(b) else {
+    let Some(second) = scalar(b) else {
         return Ok(Computed::NoMeaning);
     };
-    if first > MOST_UNITS || second > MOST_UNITS - first {
-        return Ok(Computed::TooLong);
+    match primitive_operators::concatenated(alloc, first, second, MOST_UNITS)? {
+        Some(text) => Ok(Computed::Gives(Cell::Text(text))),
+        None => Ok(Computed::TooLong),
     }
-    // A text has no more characters than code units.
-    let mut characters = Vec::with_capacity(alloc, (first + second) as usize)?;
-    push_shown(&mut characters, a)?;
-    push_shown(&mut characters, b)?;
-    Ok(Computed::Gives(Cell::Text(Text::new(alloc, characters)?)))
 }
 
 /// The number of code units of a text, in constant time; null traps, and every other value gives `NoMeaning`, as does a
@@ -59,8 +54,8 @@ pub fn text_length(v: &Cell<u32>) -> Computed
     }
 }
 
-/// Whether two texts have the same characters. A null first traps, whatever the second is; no text equals null. Every other
-/// value gives `NoMeaning`.
+/// Whether two texts have the same characters. A null first traps, whatever the second is; no text equals null. Every
+/// other value gives `NoMeaning`.
 pub fn text_equals(a: &Cell<u32>, b: &Cell<u32>) -> Computed
     ensures { result ≡ text_equals a.now b.now }
 {

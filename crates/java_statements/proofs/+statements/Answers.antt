@@ -1,7 +1,7 @@
 use Rattle.std.proofs.Common.{rules, map, [], ◌≡◌, ◌∙◌, ◌+◌, ◌∷◌, drop, sym, arith}
 use Rattle.std.proofs.lemmas.Grind.{common_steps}
 use Rattle.std.proofs.lemmas.List.{at_drop_all}
-use Rattle.java_exprs.specs.Checks.{Refuses}
+use Rattle.java_names.specs.Refusals.{Refuses}
 use Rattle.java_statements.specs.Effects.{sequence, clauses}
 use Rattle.java_statements.specs.Statements.{effect, catch_effect}
 use Rattle.java_statements.proofs.EffectLemmas.{behind, sequence_fault, sequence_step, sequence_end, clauses_behind, clauses_fault, clauses_step, clauses_end, effect_if, effect_try}

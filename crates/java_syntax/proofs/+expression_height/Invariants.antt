@@ -1,5 +1,6 @@
 use Rattle.std.proofs.Common.{◌≡◌, max, map, drop}
-use Rattle.java_syntax.specs.Height.{highest, expr_height}
+use Rattle.token_reading.specs.Height.{highest}
+use Rattle.java_syntax.specs.Height.{expr_height}
 use Rattle.java_syntax.proofs.+expression_height.Given as goal
 
 abbrev pub invariant-height::highest_expression-loop-expression : goal.invariant-height::highest_expression-loop-expression

@@ -1,5 +1,6 @@
 use Rattle.std.proofs.Common.{◌≡◌, max, map, drop}
-use Rattle.java_syntax.specs.Height.{highest, stmt_height, catch_height}
+use Rattle.token_reading.specs.Height.{highest}
+use Rattle.java_syntax.specs.Height.{stmt_height, catch_height}
 use Rattle.java_syntax.proofs.+statement_height.Given as goal
 
 abbrev pub invariant-height::highest_statement-loop-statement : goal.invariant-height::highest_statement-loop-statement

@@ -1,6 +1,7 @@
 use Rattle.std.proofs.Common.{◌≡◌, ◌<◌, ◌∙◌, ap, arith, length, subst, IfOk}
 use Rattle.bit_gates.specs.Digits.{resized_to}
-use Rattle.bit_gates.proofs.Joins.{AtWidth, some-digit, at-width-result, if-ok}
+use Rattle.bit_gates.proofs.Joins.{AtWidth, some-digit, at-width-result}
+use Rattle.gate_net.proofs.Growth.{if-ok}
 use Rattle.bit_gates.proofs.bits.at_width.Goals as goal
 
 pub resized-requires : goal.resized-requires

@@ -1,7 +1,6 @@
 use Rattle.std.proofs.Common.{◌≡◌, ◌-◌, length, arith}
 use Rattle.gate_net.specs.Net.{node_value}
-use Rattle.gate_net.proofs.Growth.{continues-then}
-use Rattle.bit_gates.proofs.Joins.{if-ok}
+use Rattle.gate_net.proofs.Growth.{continues-then, if-ok}
 use Rattle.bit_gates.proofs.Comparisons.{equal-value}
 use Rattle.bit_gates.proofs.compare.equal_nodes.Goals as goal
 

@@ -1,8 +1,7 @@
 use Rattle.std.proofs.Common.{◌≡◌, ◌-◌, length, take, arith, refl, ◌*◌}
 use Rattle.std.proofs.lemmas.List.{length-take-le}
 use Rattle.gate_net.specs.Net.{node_value}
-use Rattle.gate_net.proofs.Growth.{grows_chain, continues-then}
-use Rattle.bit_gates.proofs.Joins.{if-ok}
+use Rattle.gate_net.proofs.Growth.{grows_chain, continues-then, if-ok}
 use Rattle.bit_gates.proofs.Comparisons.{less-value}
 use Rattle.bit_gates.proofs.compare.less_nodes.Goals as goal
 

@@ -1,4 +1,4 @@
-use Rattle.std.proofs.Common.{◌≡◌, ◌<◌, ◌+◌, ◌*◌, ◌-◌, ◌/◌, ◌^◌, [], ◌∷◌, ◌++◌, length, map, sym, ap, ◌∙◌, arith, subst, suc}
+use Rattle.std.proofs.Common.{◌≡◌, ◌<◌, ◌+◌, ◌*◌, ◌-◌, ◌/◌, ◌^◌, [], ◌∷◌, ◌++◌, length, map, sym, ap, ◌∙◌, arith, subst, suc, refl}
 use Rattle.std.specs.List.{All}
 use Rattle.std.proofs.Math.Nat.{pow-suc}
 use Rattle.std.proofs.lemmas.List.{length_push}
@@ -6,6 +6,7 @@ use Rattle.std.proofs.lemmas.List.Elements.{All-push, All-same, All-nil}
 use Rattle.gate_net.specs.Net.{IsNode, node_value}
 use Rattle.bit_gates.specs.Whole.{unsigned}
 use Rattle.bit_gates.proofs.Comparisons.{binary-next, binary-none, binary-done}
+use Rattle.gate_net.proofs.Growth.{nodes-push, size-push, continues-same}
 use Rattle.bit_gates.proofs.constants.binary.Goals as goal
 
 pub loop-init : goal.loop-init
@@ -26,8 +27,8 @@ loop-preserved c =
     let i = c.loop.counter in
     let left : c.args.width - i ≡ suc (c.args.width - (i + 1)) = omega arith in
     record {
-      width = omega (arith, ap length pushed, length_push done c.constant.result, c.loop.invariant.width);
-      nodes = All-same (IsNode net) c.push.new.self.items (done ++ c.constant.result ∷ []) pushed (All-push (IsNode net) done c.constant.result c.loop.invariant.nodes c.constant.ensures.node);
+      width = size-push done c.push.new.self.items c.constant.result i pushed c.loop.invariant.width;
+      nodes = nodes-push net net done c.push.new.self.items c.constant.result pushed (continues-same net net refl) c.loop.invariant.nodes c.constant.ensures.node;
       small = omega (arith, c.loop.invariant.small, ap (λ n. 2 ^ n) left, pow-suc 2 (c.args.width - (i + 1)));
       value = λ later f inputs.
           let value = node_value later inputs in

@@ -4,9 +4,8 @@ use Rattle.std.proofs.Math.Nat.{pow-suc}
 use Rattle.std.proofs.lemmas.List.{length-replicate}
 use Rattle.std.proofs.lemmas.List.Elements.{All-push, All-same, All-weaker, All-nil, All-replicate, All-drop}
 use Rattle.gate_net.specs.Net.{IsNode, Grows, node_value}
-use Rattle.gate_net.proofs.Growth.{grows_chain, grows-same, stays, continues-then}
+use Rattle.gate_net.proofs.Growth.{grows_chain, grows-same, stays, continues-then, turn_more, nodes-push}
 use Rattle.bit_gates.specs.Whole.{whole}
-use Rattle.bit_gates.proofs.Sums.{turn_more}
 use Rattle.bit_gates.proofs.Products.{IsPartial, partial-none, partial-next, partial-done, turns, last-rest}
 use Rattle.bit_gates.proofs.product.digits_of_product.Goals as goal
 
@@ -51,11 +50,9 @@ loop-preserved c =
     let size : length sum ≡ length ys + 1 = omega (arith, same, c.in_ok-sum.ensures.width) in
     let left : 32 - i ≡ suc (32 - (i + 1)) = omega arith in
     record {
-      grows = grows_chain (5 * w * i) (5 * w) (5 * w * (i + 1)) _ _ _ c.loop.invariant.grows step (omega (arith, turn_more w i));
+      grows = grows_chain (5 * w * i) (5 * w) (5 * w * (i + 1)) _ _ _ c.loop.invariant.grows step (omega (arith, turn_more (5 * w) i));
       width = omega (arith, ap length others, length-drop 1 sum, size);
-      digits = All-same (IsNode after) c.push.new.self.items (digits ++ lowest ∷ []) pushed (All-push (IsNode after) digits lowest
-          (All-weaker (IsNode c.loop.net) (IsNode after) (λ n. stays c.loop.net after n c.sum_if.ensures.grows.begins) digits c.loop.invariant.digits)
-          (subst (IsNode after) (sym j) (c.in_ok-sum.ensures.nodes 0 lowest (omega arith))));
+      digits = nodes-push c.loop.net after digits c.push.new.self.items lowest pushed c.sum_if.ensures.grows.begins c.loop.invariant.digits (subst (IsNode after) (sym j) (c.in_ok-sum.ensures.nodes 0 lowest (omega arith)));
       higher = All-same (IsNode after) c.in_ok-higher-2.higher.items (drop 1 sum) others (All-drop (IsNode after) 1 sum c.in_ok-sum.ensures.nodes);
       small = omega (arith, c.loop.invariant.small, ap (λ n. 2 ^ n) left, pow-suc 2 (32 - (i + 1)));
       value = λ later f inputs.

@@ -1,6 +1,5 @@
 use Rattle.std.proofs.Common.{◌≡◌, ◌<◌, ◌≤◌, ◌*◌, ◌^◌, ◌∙◌, ap, length, map, arith, rules}
 use Rattle.std.specs.Prelude.{pos, ◌*ℤ◌, unsigned_abs}
-use Rattle.std.proofs.lemmas.List.Elements.{All-same}
 use Rattle.gate_net.specs.Net.{IsNode, node_value}
 use Rattle.gate_net.proofs.Growth.{continues-then}
 use Rattle.bit_gates.specs.Whole.{whole}
@@ -26,16 +25,14 @@ returns-clause-value c = λ later f inputs.
 pub returns-clause-bits : goal.returns-clause-bits
 returns-clause-bits c =
     let a = c.args.a.now in
-    let net = c.digits_of_product.new.net in
     let digits = c.in_ok-digits.digits.items in
     let width = c.width.result in
     let factor : c.from.result * a.most ≡ c.args.factor * a.most = ap (λ n. n * a.most) c.from.ensures in
     let same : c.in_ok-nodes.nodes.items ≡ resized_to digits width = c.in_ok-nodes.ensures ∙ ap (λ ns. resized_to ns width) c.as_slice-2.ensures.value in
     record {
-      nodes = All-same (IsNode net) c.in_ok-nodes.nodes.items (resized_to digits width) same (nodes-resized net digits width c.in_ok-digits.ensures.some c.in_ok-digits.ensures.nodes);
+      nodes = nodes-resized c.digits_of_product.new.net digits width c.in_ok-nodes.nodes.items c.in_ok-digits.ensures.some c.in_ok-digits.ensures.nodes same;
       width = ap length same ∙ length-resized digits width ∙ c.width.ensures.width;
       within = λ later f inputs.
-          let value = node_value later inputs in
           let on = continues-then _ _ _ c.digits_of_product.ensures.grows.begins f in
-          omega (arith, ap unsigned_abs (returns-clause-value c later f inputs), product-within c.args.factor a.most (number value a) (c.from.result * a.most) factor (c.requires.bits.within later on inputs));
+          omega (arith, ap unsigned_abs (returns-clause-value c later f inputs), product-within c.args.factor a.most (number (node_value later inputs) a) (c.from.result * a.most) factor (c.requires.bits.within later on inputs));
     }

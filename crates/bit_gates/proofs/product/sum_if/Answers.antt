@@ -1,5 +1,4 @@
 use Rattle.std.proofs.Common.{◌≡◌, ◌+◌, ◌∙◌, length, map, arith, rules}
-use Rattle.std.proofs.lemmas.List.Elements.{All-same}
 use Rattle.gate_net.specs.Net.{IsNode, node_value}
 use Rattle.bit_gates.specs.Whole.{whole}
 use Rattle.bit_gates.specs.Digits.{resized_to}
@@ -15,15 +14,11 @@ returns-then-not-wanted-clause-value c = λ later f inputs.
 pub join-requires-clause-xs : goal.join-requires-clause-xs
 join-requires-clause-xs c =
     let xs = c.args.xs.now in
-    let same : c.as_slice.result.now ≡ resized_to xs (length xs + 1) = c.as_slice.ensures.value ∙ c.in_ok-first.ensures in
-    All-same (IsNode c.args.net.now) c.as_slice.result.now (resized_to xs (length xs + 1)) same (nodes-resized c.args.net.now xs (length xs + 1) c.requires.some c.requires.xs)
+    nodes-resized c.args.net.now xs (length xs + 1) c.as_slice.result.now c.requires.some c.requires.xs (c.as_slice.ensures.value ∙ c.in_ok-first.ensures)
 
 pub join-requires-clause-ys : goal.join-requires-clause-ys
 join-requires-clause-ys c =
-    let ys = c.args.ys.now in
-    let width = length c.args.xs.now + 1 in
-    let same : c.as_slice-2.result.now ≡ resized_to ys width = c.as_slice-2.ensures.value ∙ c.in_ok-second.ensures in
-    All-same (IsNode c.args.net.now) c.as_slice-2.result.now (resized_to ys width) same (nodes-resized c.args.net.now ys width (omega arith) c.requires.ys)
+    nodes-resized c.args.net.now c.args.ys.now (length c.args.xs.now + 1) c.as_slice-2.result.now (omega arith) c.requires.ys (c.as_slice-2.ensures.value ∙ c.in_ok-second.ensures)
 
 pub returns-clause-value : goal.returns-clause-value
 returns-clause-value c = λ later f inputs.

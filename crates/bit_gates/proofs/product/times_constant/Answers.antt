@@ -3,9 +3,8 @@ use Rattle.std.specs.Int.{w64}
 use Rattle.std.specs.Prelude.{unsigned_abs}
 use Rattle.std.proofs.lemmas.Int.{to_z-of_z}
 use Rattle.gate_net.specs.Net.{node_value}
-use Rattle.gate_net.proofs.Growth.{continues-then}
+use Rattle.gate_net.proofs.Growth.{continues-then, if-ok}
 use Rattle.bit_gates.specs.Bits.{number}
-use Rattle.bit_gates.proofs.Joins.{if-ok}
 use Rattle.bit_gates.proofs.Products.{times-below}
 use Rattle.bit_gates.proofs.product.times_constant.Goals as goal
 

@@ -1,5 +1,5 @@
-use Rattle.std.proofs.Common.{◌≡◌, ◌+◌, ◌<◌, ◌≤◌, ◌++◌, ◌∷◌, [], length, take, sym, ap, ◌∙◌, arith, subst, get_or, false}
-use Rattle.gate_net.specs.Net.{Refers, values_of, inputs_of, gate_value, one_if_input}
+use Rattle.std.proofs.Common.{◌≡◌, ◌+◌, ◌<◌, ◌≤◌, length, sym, ap, ◌∙◌, arith, subst, get_or, false}
+use Rattle.gate_net.specs.Net.{Refers}
 use Rattle.gate_net.specs.declared.gate.Gate.TheVariants.{Constant}
 use Rattle.gate_net.proofs.Values.{inputs_of-more, inputs_of-front, values-step, length-values_front}
 use Rattle.gate_net.proofs.value.values.Goals as goal
@@ -17,15 +17,13 @@ pub value_at-value-requires-clause-inputs : goal.value_at-value-requires-clause-
 value_at-value-requires-clause-inputs c =
     let k = c.loop-gate.gate-index in
     let net = c.args.gates.now in
-    let h : k < length net = omega arith in
-    omega (arith, inputs_of-more net k (Constant false) h, inputs_of-front net (k + 1), c.loop-gate.invariant.next, c.requires.inputs)
+    omega (arith, inputs_of-more net k (Constant false) (omega arith), inputs_of-front net (k + 1), c.loop-gate.invariant.next, c.requires.inputs)
 
 pub overflow_add-next : goal.overflow_add-next
 overflow_add-next c =
     let k = c.loop-gate.gate-index in
     let net = c.args.gates.now in
-    let h : k < length net = omega arith in
-    omega (arith, inputs_of-more net k (Constant false) h, inputs_of-front net (k + 1), c.loop-gate.invariant.next, c.requires.inputs, c.inputs_at-next.ensures)
+    omega (arith, inputs_of-more net k (Constant false) (omega arith), inputs_of-front net (k + 1), c.loop-gate.invariant.next, c.requires.inputs, c.inputs_at-next.ensures)
 
 pub loop-gate-preserved : goal.loop-gate-preserved
 loop-gate-preserved c =

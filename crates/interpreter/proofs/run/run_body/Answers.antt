@@ -1,4 +1,4 @@
-use Rattle.std.proofs.Common.{refl, sym, subst}
+use Rattle.std.proofs.Common.{refl}
 use Rattle.interpreter.proofs.Whole.{run_ends}
 use Rattle.interpreter.proofs.run.run_body.Goals as goal
 

@@ -1,7 +1,8 @@
 use Rattle.std.proofs.Common.{rules, map, ◌≡◌, ◌+◌, ◌∷◌, ◌++◌, drop, arith}
 use Rattle.std.proofs.lemmas.Grind.{common_steps}
 use Rattle.java_exprs.specs.Attr.{values_faults}
-use Rattle.java_exprs.specs.Checks.{Refuses, attr, of_values}
+use Rattle.java_names.specs.Refusals.{Refuses}
+use Rattle.java_exprs.specs.Checks.{attr, of_values}
 use Rattle.java_exprs.proofs.RulesLemmas.{refuses_among}
 use Rattle.java_exprs.proofs.expression.+expressions.Goals as goal
 

@@ -1,7 +1,8 @@
 use Rattle.std.proofs.Common.{◌≡◌, ◌&&◌, true, rules}
 use Rattle.class_table.specs.Names.{same_name}
-use Rattle.java_exprs.specs.Denotes.{length_name}
-use Rattle.java_exprs.specs.Rules.{has_members, is_array}
+use Rattle.core_tree.specs.Types.{is_array}
+use Rattle.java_denotes.specs.Library.{length_name}
+use Rattle.java_exprs.specs.Rules.{has_members}
 use Rattle.java_exprs.proofs.CleanLemmas.{length_clean}
 use Rattle.java_exprs.proofs.fields.array_length.Goals as goal
 use Rattle.java_exprs.proofs.fields.array_length.Goals.{then-is_array, else-is_array}

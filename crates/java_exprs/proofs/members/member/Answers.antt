@@ -1,5 +1,5 @@
 use Rattle.std.proofs.Common.{◌∙◌, sym, ap}
-use Rattle.java_exprs.specs.Lookups.{variable_denotes}
+use Rattle.java_denotes.specs.Lookups.{variable_denotes}
 use Rattle.java_exprs.proofs.CleanLemmas.{known_by_parts}
 use Rattle.java_exprs.proofs.members.member.Goals as goal
 

@@ -1,6 +1,6 @@
 use Rattle.std.proofs.Common.{◌∙◌, Some, ap, sym}
 use Rattle.java_exprs.proofs.CleanLemmas.{element_clean}
-use Rattle.java_exprs.proofs.TypeForms.{elements_are, elements_are_not}
+use Rattle.core_tree.proofs.TypeFacts.{elements_are, elements_are_not}
 use Rattle.java_exprs.proofs.ValueLemmas.{element_refused}
 use Rattle.java_exprs.proofs.simple.element.Goals as goal
 

@@ -1,6 +1,6 @@
 use Rattle.std.proofs.Common.{◌≡◌, refl, rules}
 use Rattle.core_tree.specs.declared.ty.Ty.TheVariants as ty
-use Rattle.java_exprs.specs.declared.typed.Denotation.TheVariants as denotes
+use Rattle.java_denotes.specs.declared.denotation.Denotation.TheVariants as denotes
 use Rattle.java_exprs.proofs.CleanLemmas.{minus_clean}
 use Rattle.java_exprs.proofs.ValueLemmas.{minus_of_name}
 use Rattle.java_exprs.proofs.unary.minus.Goals as goal

@@ -1,18 +1,17 @@
-use Rattle.std.proofs.Common.{◌≡◌, ℕ, suc, ◌+◌, ◌-◌, sym, subst, arith}
-use Rattle.java_parse.specs.Reads.{Fails}
+use Rattle.std.proofs.Common.{◌≡◌, ℕ, sym, subst, arith}
+use Rattle.token_reading.specs.Reads.{Fails}
 use Rattle.java_reading.specs.ReadExpr.{reading}
-use Rattle.java_parse.proofs.Nothing.{no_expression}
-use Rattle.java_parse.proofs.Turns.{deeper}
+use Rattle.token_reading.proofs.Nothing.{no_part}
+use Rattle.token_reading.proofs.Turns.{deeper}
 use Rattle.java_parse.proofs.grammar.+reading.Goals as goal
 
 pub returns-then-most-eq0-clause-reads : goal.returns-then-most-eq0-clause-reads
 unfolding reading
 returns-then-most-eq0-clause-reads t c =
     let none : c.args.most ≡ 0 = omega arith in
-    subst (λ (n : ℕ). Fails (reading n c.args.least c.args.tokens.now) c.too_high.result) (sym none) (rw c.too_high.ensures (no_expression c.args.tokens.now))
+    subst (λ (n : ℕ). Fails (reading n c.args.least c.args.tokens.now) c.too_high.result) (sym none) (rw c.too_high.ensures (no_part _ c.args.tokens.now))
 
 pub returns-clause-reads : goal.returns-clause-reads
 unfolding reading
 returns-clause-reads t c =
-    let up : suc (c.args.most - 1) ≡ c.args.most - 1 + 1 = omega arith in
-    rw (deeper (λ n. reading n c.args.least c.args.tokens.now) c.args.most (omega arith), up) c.precedence.ensures.reads
+    rw (deeper (λ n. reading n c.args.least c.args.tokens.now) c.args.most (omega arith)) c.precedence.ensures.reads

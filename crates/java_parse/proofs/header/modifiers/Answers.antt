@@ -1,7 +1,7 @@
 use Rattle.std.proofs.Common.{rules, arith}
 use Rattle.std.proofs.lemmas.Grind.{common_steps}
 use Rattle.java_reading.specs.ReadClass.{modifiers}
-use Rattle.java_parse.proofs.Turns.{one_more}
+use Rattle.token_reading.proofs.Turns.{one_more}
 use Rattle.java_parse.proofs.header.modifiers.Goals as goal
 
 pub loop-turn-preserved : goal.loop-turn-preserved

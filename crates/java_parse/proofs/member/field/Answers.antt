@@ -1,6 +1,6 @@
 use Rattle.std.proofs.Common.{refl}
 use Rattle.java_reading.specs.ReadClass.{field}
-use Rattle.java_parse.proofs.Steps.{failed, first}
+use Rattle.token_reading.proofs.Sequence.{failed, first}
 use Rattle.java_parse.proofs.member.field.Goals as goal
 
 pub returns-in_err-expect : goal.returns-in_err-expect

@@ -1,6 +1,6 @@
 use Rattle.std.proofs.Common.{refl, sym}
 use Rattle.java_reading.specs.ReadStmt.{assignment}
-use Rattle.java_parse.proofs.Steps.{failed, first}
+use Rattle.token_reading.proofs.Sequence.{failed, first}
 use Rattle.java_parse.proofs.simple.assignment.Goals as goal
 
 pub returns-in_err-value : goal.returns-in_err-value

@@ -1,7 +1,7 @@
 use Rattle.std.proofs.Common.{arith}
 use Rattle.java_reading.specs.ReadStmt.{statement}
 use Rattle.java_parse.proofs.Nothing.{no_statement}
-use Rattle.java_parse.proofs.Turns.{deeper}
+use Rattle.token_reading.proofs.Turns.{deeper}
 use Rattle.java_parse.proofs.statements.+statement.Goals as goal
 
 pub returns-then-most-eq0 : goal.returns-then-most-eq0

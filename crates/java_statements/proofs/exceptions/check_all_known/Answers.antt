@@ -1,6 +1,6 @@
 use Rattle.std.proofs.Common.{[], flat_map, rules}
 use Rattle.java_exprs.specs.Attr.{of_rule}
-use Rattle.java_exprs.specs.Checks.{Refuses}
+use Rattle.java_names.specs.Refusals.{Refuses}
 use Rattle.java_statements.specs.Statements.{exception_10}
 use Rattle.java_statements.proofs.ListLemmas.{refuses_place}
 use Rattle.java_statements.proofs.exceptions.check_all_known.Goals as goal

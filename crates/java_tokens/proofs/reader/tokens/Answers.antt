@@ -6,7 +6,7 @@ use Rattle.std.proofs.lemmas.Str.{chars_from_encodes}
 use Rattle.java_tokens.proofs.Stopping.{has_text, are_tokens, has_fault}
 use Rattle.java_tokens.proofs.reader.tokens.Goals as goal
 
--- whether bytes are left behind a front of this length
+-- whether bytes are left after a front of this length
 none_left : (bytes : List ℕ) (n : ℕ) → (n == length bytes) ≡ true → drop n bytes ≡ []
 none_left bytes n whole = let same : n ≡ length bytes = grind (arith, nat_tests) in drop_all n bytes (omega arith)
 

@@ -1,39 +1,38 @@
-use Rattle.std.proofs.Common.{◌≡◌, ◌∙◌, ℕ, ◌+◌, List, [], ◌∷◌, ◌++◌, ap, arith, drop, rules, sym}
+use Rattle.std.proofs.Common.{◌≡◌, ◌∙◌, ℕ, ◌+◌, suc, List, [], ◌∷◌, ◌++◌, ap, arith, drop, rules, sym}
 use Rattle.std.proofs.lemmas.Grind.{common_steps}
 use Rattle.java_syntax.specs.declared.class.ClassTree.{ClassTree}
-use Rattle.java_syntax.specs.declared.fault.Fault.{Fault}
-use Rattle.java_types.specs.Files.{first_class}
-use Rattle.java_exprs.specs.Checks.{Refuses}
-use Rattle.java_exprs.proofs.RulesLemmas.{refuses_left}
+use Rattle.token_reading.specs.declared.fault.Fault.{Fault}
+use Rattle.core_tree.specs.BuiltIn.{first_class}
+use Rattle.java_names.specs.Refusals.{Refuses}
+use Rattle.java_names.proofs.RefusalLemmas.{refuses_left}
 use Rattle.throw_check.specs.Files.{class_faults, faults_from}
-use Rattle.throw_check.specs.Points.{types_env}
 use Rattle.throw_check.proofs.FileLemmas.{faults_end, faults_step}
 use Rattle.throw_check.proofs.file.classes.Goals as goal
 
 pub returns-in_err-class : goal.returns-in_err-class
 returns-in_err-class c =
-    let env = types_env c.args.symbols.now in
+    let symbols = c.args.symbols.now in
     let n = c.loop-tree.number in
     let rest = drop (c.loop-tree.tree-index + 1) c.args.list.now in
     let is : drop c.loop-tree.tree-index c.args.list.now ≡ c.tree-item.result ∷ rest = grind (arith, common_steps) in
-    let whole : faults_from env first_class c.args.list.now ≡ class_faults env n c.tree-item.result ++ faults_from env (n + 1) rest
-    = c.loop-tree.invariant ∙ ap (λ (list : List ClassTree). faults_from env n list) is ∙ faults_step env n c.tree-item.result rest in
-    let among : Refuses (faults_from env first_class c.args.list.now) c.in_err-class.field-0.0
-    = rw whole (refuses_left (class_faults env n c.tree-item.result) (faults_from env (n + 1) rest) c.in_err-class.field-0.0 c.in_err-class.ensures) in
+    let whole : faults_from symbols first_class c.args.list.now ≡ class_faults symbols n c.tree-item.result ++ faults_from symbols (suc n) rest
+    = c.loop-tree.invariant ∙ ap (λ (list : List ClassTree). faults_from symbols n list) is ∙ faults_step symbols n c.tree-item.result rest in
+    let among : Refuses (faults_from symbols first_class c.args.list.now) c.in_err-class.field-0.0
+    = rw whole (refuses_left (class_faults symbols n c.tree-item.result) (faults_from symbols (suc n) rest) c.in_err-class.field-0.0 c.in_err-class.ensures) in
     search rules
 
 pub loop-tree-preserved : goal.loop-tree-preserved
 loop-tree-preserved c =
-    let env = types_env c.args.symbols.now in
+    let symbols = c.args.symbols.now in
     let n = c.loop-tree.number in
     let rest = drop (c.loop-tree.tree-index + 1) c.args.list.now in
     let is : drop c.loop-tree.tree-index c.args.list.now ≡ c.tree-item.result ∷ rest = grind (arith, common_steps) in
-    let whole : faults_from env first_class c.args.list.now ≡ class_faults env n c.tree-item.result ++ faults_from env (n + 1) rest
-    = c.loop-tree.invariant ∙ ap (λ (list : List ClassTree). faults_from env n list) is ∙ faults_step env n c.tree-item.result rest in
-    whole ∙ ap (λ (faults : List Fault). faults ++ faults_from env (n + 1) rest) c.in_ok-class.ensures ∙ ap (λ (number : ℕ). faults_from env number rest) (sym c.in_ok-number.ensures.number)
+    let whole : faults_from symbols first_class c.args.list.now ≡ class_faults symbols n c.tree-item.result ++ faults_from symbols (suc n) rest
+    = c.loop-tree.invariant ∙ ap (λ (list : List ClassTree). faults_from symbols n list) is ∙ faults_step symbols n c.tree-item.result rest in
+    whole ∙ ap (λ (faults : List Fault). faults ++ faults_from symbols (suc n) rest) c.in_ok-class.ensures ∙ ap (λ (number : ℕ). faults_from symbols number rest) (sym c.in_ok-number.ensures)
 
 pub returns : goal.returns
 returns c =
-    let env = types_env c.args.symbols.now in
+    let symbols = c.args.symbols.now in
     let is : drop c.loop-tree.tree-index c.args.list.now ≡ [] = grind (arith, common_steps) in
-    c.loop-tree.invariant ∙ ap (λ (list : List ClassTree). faults_from env c.loop-tree.number list) is ∙ faults_end env c.loop-tree.number
+    c.loop-tree.invariant ∙ ap (λ (list : List ClassTree). faults_from symbols c.loop-tree.number list) is ∙ faults_end symbols c.loop-tree.number

@@ -1,16 +1,15 @@
 use Rattle.std.proofs.Common.{◌≡◌, ◌∙◌, ◌+◌, List, [], ◌∷◌, ◌++◌, ap, arith, drop, flat_map, rules}
 use Rattle.std.proofs.lemmas.Grind.{common_steps}
 use Rattle.java_syntax.specs.declared.class.Member.{Member}
-use Rattle.java_syntax.specs.declared.fault.Fault.{Fault}
-use Rattle.java_exprs.specs.Checks.{Refuses}
-use Rattle.java_exprs.proofs.RulesLemmas.{refuses_left}
+use Rattle.token_reading.specs.declared.fault.Fault.{Fault}
+use Rattle.java_names.specs.Refusals.{Refuses}
+use Rattle.java_names.proofs.RefusalLemmas.{refuses_left}
 use Rattle.throw_check.specs.Files.{member_faults}
-use Rattle.throw_check.specs.Points.{types_env}
 use Rattle.throw_check.proofs.file.members.Goals as goal
 
 pub returns-in_err-member : goal.returns-in_err-member
 returns-in_err-member c =
-    let broken = member_faults (types_env c.args.symbols.now) c.args.class c.args.handlers.now.declared in
+    let broken = member_faults c.args.symbols.now c.args.class c.args.handlers.now.declared in
     let rest = drop (c.loop-tree.tree-index + 1) c.args.list.now in
     let is : drop c.loop-tree.tree-index c.args.list.now ≡ c.tree-item.result ∷ rest = grind (arith, common_steps) in
     let whole : flat_map broken c.args.list.now ≡ broken c.tree-item.result ++ flat_map broken rest
@@ -21,7 +20,7 @@ returns-in_err-member c =
 
 pub loop-tree-preserved : goal.loop-tree-preserved
 loop-tree-preserved c =
-    let broken = member_faults (types_env c.args.symbols.now) c.args.class c.args.handlers.now.declared in
+    let broken = member_faults c.args.symbols.now c.args.class c.args.handlers.now.declared in
     let rest = drop (c.loop-tree.tree-index + 1) c.args.list.now in
     let is : drop c.loop-tree.tree-index c.args.list.now ≡ c.tree-item.result ∷ rest = grind (arith, common_steps) in
     let whole : flat_map broken c.args.list.now ≡ broken c.tree-item.result ++ flat_map broken rest
@@ -30,6 +29,6 @@ loop-tree-preserved c =
 
 pub returns : goal.returns
 returns c =
-    let broken = member_faults (types_env c.args.symbols.now) c.args.class c.args.handlers.now.declared in
+    let broken = member_faults c.args.symbols.now c.args.class c.args.handlers.now.declared in
     let is : drop c.loop-tree.tree-index c.args.list.now ≡ [] = grind (arith, common_steps) in
     c.loop-tree.invariant ∙ ap (λ (list : List Member). flat_map broken list) is

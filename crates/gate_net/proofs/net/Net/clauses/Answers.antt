@@ -1,12 +1,11 @@
-use Rattle.std.proofs.Common.{◌≡◌, ◌+◌, ◌*◌, ◌<◌, ◌≤◌, ◌^◌, ◌++◌, ◌∷◌, [], false, length, take, get_or, sym, ap, ◌∙◌, arith, subst, List, ℤ}
+use Rattle.std.proofs.Common.{◌≡◌, ◌<◌, ◌++◌, false, length, get_or, sym, ap, ◌∙◌, arith, subst, List, ℤ}
 use Rattle.std.proofs.lemmas.List.Elements.{All-same}
 use Rattle.std.specs.List.{All}
 use Rattle.clause_form.specs.Clauses.{NamesWithin}
-use Rattle.gate_net.specs.Net.{IsNet, IsNode, Refers}
-use Rattle.gate_net.specs.Encoding.{gate_clauses, clauses_from, clause_of_one, StandsFor}
+use Rattle.gate_net.specs.Net.{IsNet}
+use Rattle.gate_net.specs.Encoding.{gate_clauses}
 use Rattle.gate_net.specs.declared.gate.Gate.{Gate}
 use Rattle.gate_net.specs.declared.gate.Gate.TheVariants.{Constant}
-use Rattle.gate_net.specs.declared.literal.Literal.TheVariants.{Is}
 use Rattle.gate_net.proofs.GateClauses.{clauses-more}
 use Rattle.gate_net.proofs.Meaning.{all_clauses, all-few, all-named, finished, stands_for}
 use Rattle.gate_net.proofs.net.Net.clauses.Goals as goal

@@ -1,7 +1,7 @@
 use Rattle.gate_net.specs.declared.gate.Operator.TheVariants.{Or}
 use Rattle.std.proofs.Common.{refl}
 use Rattle.gate_net.specs.declared.gate.Gate.TheVariants.{Binary}
-use Rattle.gate_net.proofs.Growth.{grows-same, grows-result, always-two, binary-result}
+use Rattle.gate_net.proofs.Growth.{grows-same, grows-result, binary-result}
 use Rattle.gate_net.proofs.net.Net.or.Goals as goal
 
 pub returns-clause-value : goal.returns-clause-value

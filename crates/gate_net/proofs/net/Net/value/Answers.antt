@@ -1,4 +1,4 @@
-use Rattle.std.proofs.Common.{◌≡◌, ◌<◌, length, ap, ◌∙◌, arith, false, get_or}
+use Rattle.std.proofs.Common.{◌≡◌, ◌<◌, length, ap, ◌∙◌, arith, false}
 use Rattle.std.proofs.lemmas.List.{get_or_read}
 use Rattle.gate_net.specs.Net.{values_of, at}
 use Rattle.gate_net.proofs.Values.{length-values_of}

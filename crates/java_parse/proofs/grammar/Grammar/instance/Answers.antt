@@ -1,6 +1,6 @@
 use Rattle.std.proofs.Common.{refl}
 use Rattle.java_reading.specs.ReadExpr.{instance}
-use Rattle.java_parse.proofs.Steps.{failed, first}
+use Rattle.token_reading.proofs.Sequence.{failed, first}
 use Rattle.java_parse.proofs.grammar.Grammar.instance.Goals as goal
 
 pub returns-in_err-given-clause-reads : goal.returns-in_err-given-clause-reads

@@ -1,6 +1,6 @@
 use Rattle.std.proofs.Common.{refl, sym}
 use Rattle.java_reading.specs.ReadExpr.{member}
-use Rattle.java_parse.proofs.Steps.{failed, first, kept, taken}
+use Rattle.token_reading.proofs.Sequence.{failed, first, kept, taken}
 use Rattle.java_parse.proofs.grammar.Grammar.member.Goals as goal
 
 pub returns-in_err-given-clause-reads : goal.returns-in_err-given-clause-reads

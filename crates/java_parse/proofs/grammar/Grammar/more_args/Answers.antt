@@ -1,7 +1,7 @@
 use Rattle.std.proofs.Common.{rules, arith}
 use Rattle.std.proofs.lemmas.Grind.{common_steps}
 use Rattle.java_reading.specs.ReadExpr.{reading, more_args}
-use Rattle.java_parse.proofs.Turns.{one_more}
+use Rattle.token_reading.proofs.Turns.{one_more}
 use Rattle.java_parse.proofs.grammar.Grammar.more_args.Goals as goal
 
 pub returns-then-not-eat-clause-reads : goal.returns-then-not-eat-clause-reads

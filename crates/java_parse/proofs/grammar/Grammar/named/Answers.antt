@@ -1,6 +1,6 @@
 use Rattle.std.proofs.Common.{refl, sym}
 use Rattle.java_reading.specs.ReadExpr.{named}
-use Rattle.java_parse.proofs.Steps.{failed, first, kept, taken}
+use Rattle.token_reading.proofs.Sequence.{failed, first, kept, taken}
 use Rattle.java_parse.proofs.grammar.Grammar.named.Goals as goal
 
 pub returns-else-eat-clause-reads : goal.returns-else-eat-clause-reads

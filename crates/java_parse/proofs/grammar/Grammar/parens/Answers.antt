@@ -1,6 +1,6 @@
 use Rattle.std.proofs.Common.{refl, sym}
 use Rattle.java_reading.specs.ReadExpr.{parens}
-use Rattle.java_parse.proofs.Steps.{failed, first}
+use Rattle.token_reading.proofs.Sequence.{failed, first}
 use Rattle.java_parse.proofs.grammar.Grammar.parens.Goals as goal
 
 pub returns-then-casts-clause-reads : goal.returns-then-casts-clause-reads

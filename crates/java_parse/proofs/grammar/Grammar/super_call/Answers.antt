@@ -1,6 +1,6 @@
 use Rattle.std.proofs.Common.{refl}
 use Rattle.java_reading.specs.ReadExpr.{super_call}
-use Rattle.java_parse.proofs.Steps.{failed, first}
+use Rattle.token_reading.proofs.Sequence.{failed, first}
 use Rattle.java_parse.proofs.grammar.Grammar.super_call.Goals as goal
 
 pub returns-in_err-name-clause-reads : goal.returns-in_err-name-clause-reads

@@ -1,7 +1,7 @@
 use Rattle.std.proofs.Common.{rules, arith}
 use Rattle.std.proofs.lemmas.Grind.{common_steps}
 use Rattle.java_reading.specs.ReadStmt.{value, arguments, unended, statement, catches}
-use Rattle.java_parse.proofs.Turns.{one_more}
+use Rattle.token_reading.proofs.Turns.{one_more}
 use Rattle.java_parse.proofs.statements.Statements.catches.Goals as goal
 
 pub returns-in_err-next : goal.returns-in_err-next

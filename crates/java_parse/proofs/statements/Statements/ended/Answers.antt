@@ -1,6 +1,6 @@
 use Rattle.std.proofs.Common.{refl, sym}
 use Rattle.java_reading.specs.ReadStmt.{ended}
-use Rattle.java_parse.proofs.Steps.{failed, first, kept}
+use Rattle.token_reading.proofs.Sequence.{failed, first, kept}
 use Rattle.java_parse.proofs.statements.Statements.ended.Goals as goal
 
 pub returns-in_err-value : goal.returns-in_err-value

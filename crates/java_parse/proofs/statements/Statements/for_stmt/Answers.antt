@@ -1,6 +1,6 @@
 use Rattle.std.proofs.Common.{refl}
 use Rattle.java_reading.specs.ReadStmt.{for_stmt}
-use Rattle.java_parse.proofs.Steps.{failed, first}
+use Rattle.token_reading.proofs.Sequence.{failed, first}
 use Rattle.java_parse.proofs.statements.Statements.for_stmt.Goals as goal
 
 pub returns-in_err-start : goal.returns-in_err-start

@@ -1,6 +1,6 @@
 use Rattle.std.proofs.Common.{refl, sym}
 use Rattle.java_reading.specs.ReadStmt.{otherwise}
-use Rattle.java_parse.proofs.Steps.{failed, first, kept, taken}
+use Rattle.token_reading.proofs.Sequence.{failed, first, kept, taken}
 use Rattle.java_parse.proofs.statements.Statements.otherwise.Goals as goal
 
 pub returns-else-eat_word : goal.returns-else-eat_word

@@ -1,7 +1,7 @@
 use Rattle.std.proofs.Common.{refl, sym}
 use Rattle.java_reading.specs.ReadStmt.{value, arguments, unended, statement, stmts}
-use Rattle.java_parse.proofs.Steps.{failed, first, kept}
-use Rattle.java_parse.proofs.Turns.{one_more}
+use Rattle.token_reading.proofs.Sequence.{failed, first, kept}
+use Rattle.token_reading.proofs.Turns.{one_more}
 use Rattle.java_parse.proofs.statements.Statements.stmts.Goals as goal
 
 pub returns-in_err-next : goal.returns-in_err-next

@@ -1,5 +1,6 @@
 use Rattle.std.proofs.Common.{◌≡◌, max, map, drop}
-use Rattle.java_syntax.specs.Height.{highest, member_height}
+use Rattle.token_reading.specs.Height.{highest}
+use Rattle.java_syntax.specs.Height.{member_height}
 use Rattle.java_syntax.proofs.class.ClassTree.height.Given as goal
 
 abbrev pub invariant-loop-member : goal.invariant-loop-member

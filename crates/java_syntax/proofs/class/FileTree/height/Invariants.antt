@@ -1,5 +1,6 @@
 use Rattle.std.proofs.Common.{◌≡◌, max, map, drop}
-use Rattle.java_syntax.specs.Height.{highest, class_height}
+use Rattle.token_reading.specs.Height.{highest}
+use Rattle.java_syntax.specs.Height.{class_height}
 use Rattle.java_syntax.proofs.class.FileTree.height.Given as goal
 
 abbrev pub invariant-loop-class : goal.invariant-loop-class

@@ -1,9 +1,0 @@
-use Rattle.std.proofs.Common.{◌≡◌, ◌∙◌, length, arith, sym, rules}
-use Rattle.std.specs.Fmt.{signed_decimal}
-use Rattle.java_constants.proofs.TextLemmas.{decimal_units}
-use Rattle.java_constants.proofs.texts.decimal_units.Goals as goal
-
-pub returns : goal.returns
-returns c =
-    let is : length c.decimal.result.now ≡ length (signed_decimal c.args.n) = search rules in
-    is ∙ sym (decimal_units c.args.n (omega (arith, c.ranges.n.sfits)))

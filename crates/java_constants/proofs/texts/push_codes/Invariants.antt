@@ -1,5 +1,0 @@
-use Rattle.std.proofs.Common.{◌≡◌, ◌++◌, take}
-use Rattle.java_constants.proofs.texts.push_codes.Given as goal
-
-abbrev pub invariant-loop-code : goal.invariant-loop-code
-invariant-loop-code l = l.characters.items ≡ l.initial.characters.items ++ take l.code-index l.code-items

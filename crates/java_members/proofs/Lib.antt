@@ -1,0 +1,9 @@
+pub mod Rows
+pub mod LoopLemmas
+pub mod ReadingLemmas
+pub mod ListLemmas
+pub mod MemberLemmas
+pub mod MainLemmas
+pub mod FileLemmas
+pub mod GatherLemmas
+pub mod ResolveLemmas

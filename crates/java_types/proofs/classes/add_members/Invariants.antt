@@ -1,6 +1,0 @@
-use Rattle.std.proofs.Common.{◌≡◌, ◌++◌, drop, flat_map}
-use Rattle.java_types.specs.Files.{own_field}
-use Rattle.java_types.proofs.classes.add_members.Given as goal
-
-abbrev pub invariant-loop-member : goal.invariant-loop-member
-invariant-loop-member l = l.initial.fields ++ flat_map (own_field l.env l.class) l.members ≡ l.fields ++ flat_map (own_field l.env l.class) (drop l.member-index l.members)

@@ -1,6 +1,0 @@
-use Rattle.std.proofs.Common.{◌≡◌, ◌++◌, drop}
-use Rattle.java_types.specs.Files.{core_classes}
-use Rattle.java_types.proofs.classes.classes.Given as goal
-
-abbrev pub invariant-loop-row : goal.invariant-loop-row
-invariant-loop-row l = core_classes l.env l.tree 0 l.rows ≡ l.classes ++ core_classes l.env l.tree l.number (drop l.row-index l.rows)

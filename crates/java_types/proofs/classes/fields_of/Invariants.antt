@@ -1,7 +1,0 @@
-use Rattle.std.proofs.Common.{◌≡◌, [], ◌++◌, drop, flat_map, unwrap_or, slice_get}
-use Rattle.java_types.specs.Files.{fields_of, all_own_fields}
-use Rattle.java_types.proofs.classes.fields_of.Given as goal
-
-abbrev pub invariant-loop-above : goal.invariant-loop-above
-invariant-loop-above l =
-    fields_of l.env l.tree l.class ≡ l.fields ++ flat_map (λ d. unwrap_or (slice_get (all_own_fields l.env l.tree) d) []) (drop l.above-index l.above-items)

@@ -1,7 +1,0 @@
-use Rattle.std.proofs.Common.{◌≡◌, drop}
-use Rattle.java_types.specs.Declarations.{declaration_faults}
-use Rattle.java_types.specs.Files.{first_class, of_members}
-use Rattle.java_types.proofs.declarations.check_declarations.Given as goal
-
-abbrev pub invariant-loop-tree : goal.invariant-loop-tree
-invariant-loop-tree l = of_members (declaration_faults l.env) first_class l.classes ≡ of_members (declaration_faults l.env) l.class (drop l.tree-index l.classes)

@@ -1,0 +1,10 @@
+pub mod Cursor
+pub mod Found
+pub mod Given
+pub mod Lexemes
+pub mod Nothing
+pub mod Pairs
+pub mod Sequence
+pub mod Steps
+pub mod Tests
+pub mod Turns

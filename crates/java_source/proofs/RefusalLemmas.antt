@@ -1,5 +1,6 @@
 -- Why a source is refused, from what each stage says.
-use Rattle.std.proofs.Common.{◌≡◌, ◌⊎◌, inl, inr, ℕ, ◌≤◌, List, [], length, refl}
+use Rattle.std.proofs.Common.{◌≡◌, ◌⊎◌, inl, inr, ℕ, ◌≤◌, List, [], length, refl, subst}
+use Rattle.core_tree.specs.BuiltIn.{first_class}
 use Rattle.java_tokens.specs.declared.token.Token.{Token}
 use Rattle.java_tokens.specs.Tokens.{AreTokens}
 use Rattle.token_reading.specs.declared.fault.Fault.{Fault}
@@ -13,18 +14,33 @@ use Rattle.token_reading.specs.declared.error.ParseError.TheVariants as parse
 use Rattle.java_parse.specs.Answer.{HasCause, IsOnlyTree}
 use Rattle.class_table.specs.Faults.{Blames, Clear}
 use Rattle.class_table.specs.Rules.{Breaks}
+use Rattle.class_table.specs.Table.{table_of}
+use Rattle.java_names.specs.declared.symbol.Symbols.{Symbols}
 use Rattle.java_names.specs.Refusals.{Refuses}
+use Rattle.java_names.specs.Symbols.{symbols_of}
+use Rattle.throw_check.specs.Files.{faults_from}
 use Rattle.java_source.specs.declared.refusal.SourceError.{SourceError}
 use Rattle.java_source.specs.declared.refusal.SourceError.TheVariants as error
 use Rattle.java_source.specs.declared.refusal.SourceRefusal.TheVariants as refusal
 use Rattle.java_source.specs.Accepted.{IsBroken, most_bytes, type_faults, throw_faults}
 use Rattle.java_source.specs.Refused.{IsRefused, TellsNoTree, rule_refusal}
 
--- an error of the last check is a rule that is broken where no earlier one is
-pub blames_throws : (tree : FileTree) (e : CheckError)
+-- an error of the check of types is a rule that is broken where none of the classes is
+pub blames_types : (tree : FileTree) (e : CheckError) → Clear (Breaks tree) → Refuses (type_faults tree) e → Blames (IsBroken tree) e
+blames_types tree (check.Fault f) classes h = inr (classes, inl h)
+blames_types tree check.OutOfMemory classes h = tt
+
+-- an error of the check of thrown exceptions is a rule that is broken where no earlier one is
+throws_in : (tree : FileTree) (e : CheckError)
     → Clear (Breaks tree) → type_faults tree ≡ [] → Refuses (throw_faults tree) e → Blames (IsBroken tree) e
-blames_throws tree (check.Fault f) classes types h = inr (classes, inr (types, h))
-blames_throws tree check.OutOfMemory classes types h = tt
+throws_in tree (check.Fault f) classes types h = inr (classes, inr (types, h))
+throws_in tree check.OutOfMemory classes types h = tt
+
+-- and of that check by the symbols of the tree
+pub blames_throws : (tree : FileTree) (e : CheckError) (symbols : Symbols) → symbols ≡ symbols_of (table_of tree)
+    → Clear (Breaks tree) → type_faults tree ≡ [] → Refuses (faults_from symbols first_class tree.classes) e → Blames (IsBroken tree) e
+blames_throws tree e symbols is classes types h =
+    throws_in tree e classes types (subst (λ s. Refuses (faults_from s first_class tree.classes) e) is h)
 
 module _ (bytes : List ℕ) (few : length bytes ≤ most_bytes) (tokens : List Token) (read : AreTokens bytes tokens) where
   pub refuses_unparsed : (e : ParseError) (made : SourceError) → HasCause e tokens → TellsNoTree tokens e made → IsRefused bytes made

@@ -66,13 +66,13 @@ term_infix (k.Op s) = term_operator s
 term_infix (k.Ident x) = word_infix (word_of x)
 term_infix _ = i.Other
 
--- How tightly it binds to the term: the level of what it makes, and 0 where it makes nothing. A `(` makes a call of a
--- name alone, a `:` a variable, and they bind more tightly than all others.
+-- How tightly it binds to the term: the level of what it makes, and 0 where it makes nothing. A `:` makes a variable of a
+-- name alone, a `(` a call, and they bind more tightly than all others.
 abbrev pub term_binds : TermInfix → ℕ
 term_binds (i.Binary p) = op_level p
 term_binds i.Dot = 11
-term_binds i.Paren = 12
 term_binds i.Colon = 12
+term_binds i.Paren = 13
 term_binds i.Other = 0
 
 abbrev pub infix_at : List Lexeme → TermInfix
@@ -213,7 +213,7 @@ module _ (part : ℕ → Parser TallTerm) where
 unfoldable pub image : Parser TallLink → TallTerm → Parser TallTerm
 image link left xs = link xs >>= (λ r ys. Ok ((t.Image left.0 r.0, max left.1 r.1 + 1), ys))
 
-module _ (n : ℕ) (part : ℕ → Parser TallTerm) (link : Parser TallLink) where
+module _ (part : ℕ → Parser TallTerm) (link : Parser TallLink) where
   abbrev pub term_behind : TallTerm → TermInfix → Parser TallTerm
   term_behind left (i.Binary p) xs = term_operated part left p xs
   term_behind left i.Dot xs = image link left xs
@@ -221,6 +221,7 @@ module _ (n : ℕ) (part : ℕ → Parser TallTerm) (link : Parser TallLink) whe
   term_behind left i.Colon xs = Err no_tree
   term_behind left i.Other xs = Err no_tree
 
+module _ (n : ℕ) (part : ℕ → Parser TallTerm) (link : Parser TallLink) where
   -- Goes on with what binds as tightly as `least` while the whole isn't higher than its parts, of height n, and one
   -- more; the second number bounds the turns.
   unfoldable pub term_climb : ℕ → ℕ → TallTerm → Parser TallTerm
@@ -228,7 +229,7 @@ module _ (n : ℕ) (part : ℕ → Parser TallTerm) (link : Parser TallLink) whe
   term_climb least (suc turns) left xs =
       if nat_lt (term_follows xs) least then Ok (left, xs)
       else
-      (if nat_lt left.1 (suc n) then (term_behind left (infix_at xs) (next xs) >>= term_climb least turns) else Err too_high)
+      (if nat_lt left.1 (suc n) then (term_behind part link left (infix_at xs) (next xs) >>= term_climb least turns) else Err too_high)
 
   unfoldable pub term_precedence : ℕ → Parser TallTerm
   term_precedence least xs = term_prefix part least xs >>= term_climb least (suc n)

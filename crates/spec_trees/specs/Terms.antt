@@ -150,8 +150,7 @@ IsNumber x xs rest = xs ≡ lexeme x.at (k.Number x.value) ∷ rest
 -- ---- the grammar. `Part t l xs rest` says that the term t, of level l or above, is written at the front of xs, and
 -- that the rest stands after it; `Link` says the same of relations.
 
-module _ (Part : TermTree → ℕ → List Lexeme → List Lexeme → Type 0)
-    (Link : LinkTree → ℕ → List Lexeme → List Lexeme → Type 0) where
+module _ (Part : TermTree → ℕ → List Lexeme → List Lexeme → Type 0) where
   -- further arguments, and the closing parenthesis
   abbrev pub MoreTerms : List TermTree → List Lexeme → List Lexeme → Type 0
   MoreTerms [] xs rest = Then (k.Op o.RightParen) xs rest
@@ -163,6 +162,8 @@ module _ (Part : TermTree → ℕ → List Lexeme → List Lexeme → Type 0)
   Terms [] xs rest = Then (k.Op o.RightParen) xs rest
   Terms (a ∷ more) xs rest = (ys : List Lexeme) × Part a 1 xs ys × MoreTerms more ys rest
 
+module _ (Part : TermTree → ℕ → List Lexeme → List Lexeme → Type 0)
+    (Link : LinkTree → ℕ → List Lexeme → List Lexeme → Type 0) where
   -- one production for each kind of node
   abbrev pub TermNode : TermLayer → List Lexeme → List Lexeme → Type 0
   TermNode (TermTree-F.Number x) xs rest = IsNumber x xs rest
@@ -172,7 +173,7 @@ module _ (Part : TermTree → ℕ → List Lexeme → List Lexeme → Type 0)
   TermNode (TermTree-F.Answer at) xs rest = xs ≡ lexeme at (word_kind word.Answer) ∷ rest
   TermNode (TermTree-F.Name x) xs rest = IsName x xs rest
   TermNode (TermTree-F.Call x given) xs rest =
-      (ys : List Lexeme) × IsName x xs ys × (zs : List Lexeme) × Then (k.Op o.LeftParen) ys zs × Terms given zs rest
+      (ys : List Lexeme) × IsName x xs ys × (zs : List Lexeme) × Then (k.Op o.LeftParen) ys zs × Terms Part given zs rest
   TermNode (TermTree-F.Old at t) xs rest =
       (ys : List Lexeme) × (xs ≡ lexeme at (word_kind word.Old) ∷ ys) × (zs : List Lexeme) × Then (k.Op o.LeftParen) ys zs
       × (us : List Lexeme) × Part t 1 zs us × Then (k.Op o.RightParen) us rest

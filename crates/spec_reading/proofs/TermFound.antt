@@ -392,5 +392,5 @@ comes (suc n) b e l xs rest w least low stop =
     (node_goes n b (comes n) (out-TermTree e) least xs rest (omega (arith, w.0)) stop w.1)
 
 -- a term that is written is found, or it is higher than the budget
-pub finds_terms : (n : ℕ) → FindsTerms n
-finds_terms n = finds n (comes n)
+pub every_term : (n : ℕ) → FindsTerms n
+every_term n = finds n (comes n)

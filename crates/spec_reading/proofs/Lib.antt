@@ -16,3 +16,7 @@ pub mod ContractWhole
 pub mod SpecSound
 pub mod SpecFound
 pub mod SpecWhole
+pub mod OperandRows
+pub mod TermRows
+pub mod ContractRows
+pub mod SpecRows

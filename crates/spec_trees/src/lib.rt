@@ -20,4 +20,4 @@ pub use contract::{AddedTree, BoundTree, ContractTree, IntsTree, NumberTree, Spe
 pub use link::LinkTree;
 pub use operator::{LinkOp, PathOp, PrefixOp, Quantifier, TermOp};
 pub use term::TermTree;
-pub use word::{ContractWord, word_of};
+pub use word::{ContractWord, is_word, word_of};

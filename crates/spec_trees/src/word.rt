@@ -45,7 +45,7 @@ const WORDS: [ContractWord; 15] = [
 ];
 
 /// Whether a name is spelled as this word.
-fn is_word(name: &Name, word: ContractWord) -> bool
+pub fn is_word(name: &Name, word: ContractWord) -> bool
     ensures { result ≡ spec.is_word name.now word }
 {
     let letters = name.characters();
@@ -69,6 +69,7 @@ fn is_word(name: &Name, word: ContractWord) -> bool
 }
 
 /// The word that a name is in a contract, if it is one.
+#[tactic(auto, unfolding(crate::specs::Words::word_of))]
 pub fn word_of(name: &Name) -> Option<ContractWord>
     ensures { result ≡ spec.word_of name.now }
 {

@@ -137,23 +137,23 @@ module _ (n b : ℕ) where
       → us ≡ lexeme c.at (word_kind word.Ensures) ∷ vs → TermWithin n c.ensured 1 vs rest → term_follows rest ≡ 0
       → Or n b (contract_node b xs) (Ok (c, rest))
   unfolding contract_node same_operator
-  contract_by c xs ys zs us vs rest i ms as is w stop =
+  contract_by c xs ys zs us vs rest i ms cs is w stop =
       let bare : term_follows us ≡ 0 = rw (is, word_read word.Ensures) refl in
       let shut : sees o.Comma us ≡ false = rw is refl in
       let bare_before : term_follows zs ≡ 0 =
-      at_clause (λ l. term_follows l ≡ 0) word.Adds IsAdded c.adds zs us as (λ at l. rw (word_read word.Adds) refl) bare in
-      let shut_before : sees o.Comma zs ≡ false = at_clause (λ l. sees o.Comma l ≡ false) word.Adds IsAdded c.adds zs us as (λ at l. refl) shut in
+      at_clause (λ l. term_follows l ≡ 0) word.Adds IsAdded c.adds zs us cs (λ at l. rw (word_read word.Adds) refl) bare in
+      let shut_before : sees o.Comma zs ≡ false = at_clause (λ l. sees o.Comma l ≡ false) word.Adds IsAdded c.adds zs us cs (λ at l. refl) shut in
       let no_adds : sees_text (word_text word.Adds) us ≡ false = rw is refl in
       let no_modifies : sees_text (word_text word.Modifies) zs ≡ false =
-      at_clause (λ l. sees_text (word_text word.Modifies) l ≡ false) word.Adds IsAdded c.adds zs us as (λ at l. refl) (rw is refl) in
+      at_clause (λ l. sees_text (word_text word.Modifies) l ≡ false) word.Adds IsAdded c.adds zs us cs (λ at l. refl) (rw is refl) in
       let no_ints : sees_text (word_text word.Ints) ys ≡ false =
       at_clause (λ l. sees_text (word_text word.Ints) l ≡ false) word.Modifies (IsPlace (TermWithin n)) c.modifies ys zs ms (λ at l. refl)
-      (at_clause (λ l. sees_text (word_text word.Ints) l ≡ false) word.Adds IsAdded c.adds zs us as (λ at l. refl) (rw is refl)) in
+      (at_clause (λ l. sees_text (word_text word.Ints) l ≡ false) word.Adds IsAdded c.adds zs us cs (λ at l. refl) (rw is refl)) in
       or_then _ (found (ints_read c.ints xs ys i no_ints))
       (or_then _ (list_or n b (term_from b 11) (IsPlace (TermWithin n)) place_or (λ a. term_length n a 11) word.Modifies (λ at l. refl)
       c.modifies ys zs ms no_modifies shut_before bare_before)
       (or_then _ (list_or n b added IsAdded (λ a l m v stop'. found (added_read a l m v)) added_length word.Adds (λ at l. refl)
-      c.adds zs us as no_adds shut bare)
+      c.adds zs us cs no_adds shut bare)
       (or_then _ (ensures_or c.at c.ensured us vs rest is w stop) (rw is (found refl)))))
 
 ints_length : (t : Option IntsTree) (xs rest : List Lexeme) → IntsClause t xs rest → length rest ≤ length xs

@@ -47,16 +47,16 @@ unfolding read_contract contract_node ints interval bound signed number list_cla
 ensures_alone = refl
 
 -- `ints 0..5 ensures x {`
-interval : read_contract 9 (row 0 (k.Ident (codes "ints") ∷ k.Number 0 ∷ k.Op o.DotDot ∷ k.Number 5 ∷ k.Ident (codes "ensures") ∷ k.Ident (codes "x") ∷ k.Op o.LeftBrace ∷ [])) ≡
+ints_clause : read_contract 9 (row 0 (k.Ident (codes "ints") ∷ k.Number 0 ∷ k.Op o.DotDot ∷ k.Number 5 ∷ k.Ident (codes "ensures") ∷ k.Ident (codes "x") ∷ k.Op o.LeftBrace ∷ [])) ≡
     Ok (contract_of (Some (interval_of (bound_of false 1 0) (bound_of false 3 5))) [] [] 4 (t.Name (ident_at 5 (codes "x"))), row 6 (k.Op o.LeftBrace ∷ []))
 unfolding read_contract contract_node ints interval bound signed number list_clause more_items added ensures_clause term_from expect_text name ident read_term term_precedence term_prefix term_climb called terms more_terms closed old term_parens term_operand range quantified term_operated image read_link link_precedence link_prefix link_climb path_of link_parens link_operated expect none_fits same_operator word_of
-interval = refl
+ints_clause = refl
 
 -- `ints -5..-1 ensures x {`
-negative_interval : read_contract 9 (row 0 (k.Ident (codes "ints") ∷ k.Op o.Minus ∷ k.Number 5 ∷ k.Op o.DotDot ∷ k.Op o.Minus ∷ k.Number 1 ∷ k.Ident (codes "ensures") ∷ k.Ident (codes "x") ∷ k.Op o.LeftBrace ∷ [])) ≡
+negative_bounds : read_contract 9 (row 0 (k.Ident (codes "ints") ∷ k.Op o.Minus ∷ k.Number 5 ∷ k.Op o.DotDot ∷ k.Op o.Minus ∷ k.Number 1 ∷ k.Ident (codes "ensures") ∷ k.Ident (codes "x") ∷ k.Op o.LeftBrace ∷ [])) ≡
     Ok (contract_of (Some (interval_of (bound_of true 2 5) (bound_of true 5 1))) [] [] 6 (t.Name (ident_at 7 (codes "x"))), row 8 (k.Op o.LeftBrace ∷ []))
 unfolding read_contract contract_node ints interval bound signed number list_clause more_items added ensures_clause term_from expect_text name ident read_term term_precedence term_prefix term_climb called terms more_terms closed old term_parens term_operand range quantified term_operated image read_link link_precedence link_prefix link_climb path_of link_parens link_operated expect none_fits same_operator word_of
-negative_interval = refl
+negative_bounds = refl
 
 -- `modifies this.v ensures x {`
 one_place : read_contract 9 (row 0 (k.Ident (codes "modifies") ∷ k.Word w.This ∷ k.Op o.Dot ∷ k.Ident (codes "v") ∷ k.Ident (codes "ensures") ∷ k.Ident (codes "x") ∷ k.Op o.LeftBrace ∷ [])) ≡

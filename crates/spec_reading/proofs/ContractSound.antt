@@ -155,9 +155,9 @@ module _ (n : ℕ) where
       gives_then (ints_gives xs) (λ h. absurd h) (λ i ys wi.
       gives_then (list_gives (term_from n 11) (IsPlace (TermWithin n)) (λ m. n < m) (λ m m' up h. omega arith) place_gives word.Modifies ys)
       (λ h. omega (arith, wi.1)) (λ ms zs wm.
-      gives_then (list_gives added IsAdded (λ m. ⊥) (λ m m' up h. h) added_gives word.Adds zs) (λ h. absurd h) (λ as us wa.
+      gives_then (list_gives added IsAdded (λ m. ⊥) (λ m m' up h. h) added_gives word.Adds zs) (λ h. absurd h) (λ cs us wa.
       gives_then (ensures_gives us) (λ h. omega (arith, wi.1, wm.1, wa.1)) (λ t vs w.
-      gives (contract_of i ms as (place us) t) vs (
+      gives (contract_of i ms cs (place us) t) vs (
         ((ys, wi.0, zs, wm.0, us, wa.0, w.0.0, w.0.1, w.0.2.0), omega (arith, w.0.2.1)),
         omega (arith, wi.1, wm.1, wa.1, w.1),
       )))))

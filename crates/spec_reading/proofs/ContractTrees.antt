@@ -7,6 +7,7 @@ use Rattle.spec_trees.specs.declared.contract.ContractTree.{ContractTree}
 use Rattle.spec_trees.specs.declared.contract.SpecTree.{SpecTree}
 use Rattle.spec_trees.specs.declared.term.TermTree.{TermTree}
 use Rattle.spec_trees.specs.declared.word.ContractWord.{ContractWord}
+use Rattle.spec_trees.specs.declared.word.ContractWord.TheVariants as word
 use Rattle.spec_trees.specs.Clauses.{MoreItems, ListClause, IsPlace, ContractWithin, SpecWithin}
 use Rattle.spec_trees.specs.Height.{term_height, contract_height, spec_height}
 use Rattle.spec_trees.specs.Terms.{TermWithin}
@@ -41,7 +42,7 @@ pub contract_at_most : (n : ℕ) (c : ContractTree) (xs rest : List Lexeme) → 
 unfolding ContractWithin
 contract_at_most zero c xs rest w = absurd w
 contract_at_most (suc n) c xs rest w =
-    omega (arith, places_low n _ c.modifies w.0 w.2 w.3, term_at_most n c.ensured 1 w.6 rest w.8)
+    omega (arith, places_low n word.Modifies c.modifies w.0 w.2 w.3, term_at_most n c.ensured 1 w.6 rest w.8)
 
 pub contract_fitting : (n m : ℕ) (c : ContractTree) (xs rest : List Lexeme) → contract_height c ≤ m → ContractWithin n c xs rest
     → ContractWithin m c xs rest
@@ -52,7 +53,7 @@ contract_fitting (suc n) (suc m) c xs rest low w = (
   w.0,
   w.1,
   w.2,
-  places_fit n m _ c.modifies w.0 w.2 (omega arith) w.3,
+  places_fit n m word.Modifies c.modifies w.0 w.2 (omega arith) w.3,
   w.4,
   w.5,
   w.6,

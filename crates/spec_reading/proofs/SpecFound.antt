@@ -30,16 +30,16 @@ module _ (n b : ℕ) where
       (or_then _ (term_or n b e 1 ys zs w (omega arith) (omega arith) (rw v.1 (semicolon_ends v.0 rest)))
       (or_then _ (op_or n b o.Semicolon zs rest v) (found refl)))
 
-  spec_by : (t : SpecTree) (xs ys zs us vs ws as bs rest : List Lexeme) → xs ≡ lexeme t.at (k.Ident (codes "spec")) ∷ ys → IsType t.ty ys zs
-      → IsIdent t.name zs us → Then (k.Op o.LeftParen) us vs → Params t.params vs ws → Then (k.Op o.Assign) ws as
-      → TermWithin n t.term 1 as bs → Then (k.Op o.Semicolon) bs rest → type_height t.ty ≤ n → params_height t.params ≤ n
+  spec_by : (t : SpecTree) (xs ys zs us vs ws ds es rest : List Lexeme) → xs ≡ lexeme t.at (k.Ident (codes "spec")) ∷ ys → IsType t.ty ys zs
+      → IsIdent t.name zs us → Then (k.Op o.LeftParen) us vs → Params t.params vs ws → Then (k.Op o.Assign) ws ds
+      → TermWithin n t.term 1 ds es → Then (k.Op o.Semicolon) es rest → type_height t.ty ≤ n → params_height t.params ≤ n
       → Or n b (spec_node b xs) (Ok (t, rest))
   unfolding spec_node declared defined expect_text
-  spec_by t xs ys zs us vs ws as bs rest is wt wx u wp v w s lowt lowp =
+  spec_by t xs ys zs us vs ws ds es rest is wt wx u wp v w s lowt lowp =
       rw is (or_then _ (named_type_or n b t.ty t.name ys zs us wt lowt wx)
       (or_then _ (ident_or n b t.name zs us wx)
       (or_then _ (params_or n b t.params us vs ws u wp lowp)
-      (or_then _ (definition_or t.term ws as bs rest v w s) (found refl)))))
+      (or_then _ (definition_or t.term ws ds es rest v w s) (found refl)))))
 
 nonempty : (t : SpecTree) (xs ys : List Lexeme) → xs ≡ lexeme t.at (k.Ident (codes "spec")) ∷ ys → 0 < length xs
 nonempty t xs ys is = omega (arith, ap length is)

@@ -52,7 +52,7 @@ unfolding read_spec spec_node declared defined definition term_from expect_text 
 no_word_in_the_term = refl
 
 -- `spec void p() = x;`
-no_void : read_spec 9 (row 0 (k.Ident (codes "spec") ∷ k.Ident (codes "void") ∷ k.Ident (codes "p") ∷ k.Op o.LeftParen ∷ k.Op o.RightParen ∷ k.Op o.Assign ∷ k.Ident (codes "x") ∷ k.Op o.Semicolon ∷ [])) ≡
+no_void : read_spec 9 (row 0 (k.Ident (codes "spec") ∷ k.Word w.Void ∷ k.Ident (codes "p") ∷ k.Op o.LeftParen ∷ k.Op o.RightParen ∷ k.Op o.Assign ∷ k.Ident (codes "x") ∷ k.Op o.Semicolon ∷ [])) ≡
     Err no_tree
 unfolding read_spec spec_node declared defined definition term_from expect_text ident base_type type_tree pairs brackets param more_params params read_term term_precedence term_prefix term_climb called terms more_terms closed old term_parens term_operand range quantified term_operated image name read_link link_precedence link_prefix link_climb path_of link_parens link_operated expect none_fits same_operator word_of
 no_void = refl

@@ -262,7 +262,7 @@ module _ (b : ℕ) (part : ℕ → Parser TallTerm) (sound : (l : ℕ) (xs : Lis
   operator_left l at _ xs ys high is = gives_none
 
   keyword_left : (l at : ℕ) (s : Keyword) (xs ys : List Lexeme) → l ≤ 11 → xs ≡ lexeme at (k.Word s) ∷ ys
-      → TermLeft (suc b) l xs (keyword_prefix part at s ys)
+      → TermLeft (suc b) l xs (keyword_prefix at s ys)
   keyword_left l at w.True xs ys high is =
       leaf b (TermTree-F.Bool at true) (t.Bool at true) _ l xs ys (rolls-Bool at true) is high (term_follows_most ys) is
   keyword_left l at w.False xs ys high is =

@@ -101,8 +101,8 @@ module _ (n : ℕ) where
 
   unfoldable pub contract_node : Parser ContractTree
   contract_node xs =
-      ints xs >>= (λ i ys. list_clause (term_from 11) word.Modifies ys >>= (λ ms zs. list_clause added word.Adds zs >>= (λ as us.
-      ensures_clause us >>= (λ t vs. Ok (contract_of i ms as (place us) t, vs)))))
+      ints xs >>= (λ i ys. list_clause (term_from 11) word.Modifies ys >>= (λ ms zs. list_clause added word.Adds zs >>= (λ cs us.
+      ensures_clause us >>= (λ t vs. Ok (contract_of i ms cs (place us) t, vs)))))
 
   -- after the parameters of a spec method
   unfoldable pub definition : Parser TermTree

@@ -109,6 +109,14 @@ sees_variable xs = sees_name xs && sees o.Colon (next xs)
 abbrev pub number_of : ℕ → ℕ → NumberTree
 number_of at value = record { at = at; value = value }
 
+-- a literal or `this`
+abbrev pub keyword_prefix : ℕ → Keyword → Parser TallTerm
+keyword_prefix at w.True xs = Ok ((t.Bool at true, 1), xs)
+keyword_prefix at w.False xs = Ok ((t.Bool at false, 1), xs)
+keyword_prefix at w.Null xs = Ok ((t.Null at, 1), xs)
+keyword_prefix at w.This xs = Ok ((t.This at, 1), xs)
+keyword_prefix at _ xs = Err no_tree
+
 -- ---- terms. `part l` reads one of level l or above that is lower than the whole.
 
 module _ (part : ℕ → Parser TallTerm) where
@@ -159,14 +167,16 @@ module _ (part : ℕ → Parser TallTerm) where
       else (name xs >>= (λ x ys. range ys >>= (λ a zs. part 1 zs >>= (λ b us.
       Ok ((t.Quantified at q x a.0 b.0, max a.1 b.1 + 1), us)))))
 
-  -- after a word of contracts: a variable makes a quantifier of `some` and `no`
+  -- after `some` or `no`: a variable makes a quantifier of it
+  abbrev pub some_or_no : ℕ → ℕ → Quantifier → PrefixOp → Parser TallTerm
+  some_or_no least at q p xs = if sees_variable xs then quantified least at q xs else term_operand least at p xs
+
+  -- after a word of contracts
   abbrev pub word_prefix : ℕ → ℕ → ContractWord → Parser TallTerm
   word_prefix least at word.All xs = quantified least at quantifier.All xs
   word_prefix least at word.Sum xs = quantified least at quantifier.Sum xs
-  word_prefix least at word.Exists xs =
-      if sees_variable xs then quantified least at quantifier.Exists xs else term_operand least at prefix.Exists xs
-  word_prefix least at word.No xs =
-      if sees_variable xs then quantified least at quantifier.No xs else term_operand least at prefix.No xs
+  word_prefix least at word.Exists xs = some_or_no least at quantifier.Exists prefix.Exists xs
+  word_prefix least at word.No xs = some_or_no least at quantifier.No prefix.No xs
   word_prefix least at word.One xs = term_operand least at prefix.One xs
   word_prefix least at word.Lone xs = term_operand least at prefix.Lone xs
   word_prefix least at word.Old xs = old at xs
@@ -183,13 +193,6 @@ module _ (part : ℕ → Parser TallTerm) where
   operator_prefix least at o.Hash xs = term_operand least at prefix.Count xs
   operator_prefix least at o.Not xs = term_operand least at prefix.Not xs
   operator_prefix least at _ xs = Err no_tree
-
-  abbrev pub keyword_prefix : ℕ → Keyword → Parser TallTerm
-  keyword_prefix at w.True xs = Ok ((t.Bool at true, 1), xs)
-  keyword_prefix at w.False xs = Ok ((t.Bool at false, 1), xs)
-  keyword_prefix at w.Null xs = Ok ((t.Null at, 1), xs)
-  keyword_prefix at w.This xs = Ok ((t.This at, 1), xs)
-  keyword_prefix at _ xs = Err no_tree
 
   abbrev pub term_prefix_by : ℕ → ℕ → TokenKind → Parser TallTerm
   term_prefix_by least at (k.Number v) xs = Ok ((t.Number (number_of at v), 1), xs)

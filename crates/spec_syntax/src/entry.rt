@@ -3,8 +3,8 @@ ghost use Rattle.spec_trees.specs.Height.{contract_height, spec_height};
 ghost use Rattle.spec_syntax.specs.Answer as answer;
 ghost use Rattle.token_reading.specs.Reads.{Reads};
 
-use crate::contract::contract;
-use crate::spec_method::spec_method;
+use crate::contracts::contract;
+use crate::spec_methods::spec_method;
 use java_tokens::{Operator, Token};
 use spec_trees::{ContractTree, SpecTree};
 use std::alloc::Global;

@@ -6,25 +6,25 @@
 //! reading function of spec_reading gives on the same tokens (token_reading's `specs/Reads`); what these find is proved
 //! there.
 //!
-//! Read `levels`, `infix`, `name`, `link_grammar`, `term_grammar`, `term_prefix`, `term_climb`, `clause`, `contract`,
-//! `spec_method`, then `entry`.
+//! Read `levels`, `infix`, `name`, `link_grammar`, `term_grammar`, `term_prefix`, `term_climb`, `clause`, `contracts`,
+//! `spec_methods`, then `entry`.
 #![tactic(auto)]
 
 mod clause;
-mod contract;
+mod contracts;
 mod entry;
 mod infix;
 mod levels;
 mod link_grammar;
 mod name;
 mod nodes;
-mod spec_method;
+mod spec_methods;
 mod term_climb;
 mod term_grammar;
 mod term_prefix;
 
-pub use contract::contract;
+pub use contracts::contract;
 pub use entry::{parse_contract, parse_spec_method};
-pub use spec_method::spec_method;
+pub use spec_methods::spec_method;
 pub use spec_trees::{AddedTree, BoundTree, ContractTree, IntsTree, LinkTree, NumberTree, SpecTree, TermTree};
 pub use token_reading::ParseError;

@@ -91,7 +91,7 @@ turned n b l a new p xs ys zs rest lv ha more (suc fuel) low enough is t go true
     let yes_ = from_below (link_height a) (suc b) test in
     elim (go (omega arith)) [
       | found low' is' ↦
-        goes fuel low' (omega arith) (is ∙ rw (t.1, link_sign_read p, not_below (link_op_level p) l lv, test, is') refl)
+          goes fuel low' (omega arith) (is ∙ rw (t.1, link_sign_read p, not_below (link_op_level p) l lv, test, is') refl)
       | over high is' ↦ higher high (is ∙ rw (t.1, link_sign_read p, not_below (link_op_level p) l lv, test, is') refl)
     ]
 

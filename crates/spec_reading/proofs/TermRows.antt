@@ -233,8 +233,8 @@ no_right_side : read_term 9 1 (row 0 (k.Ident (codes "a") ∷ k.Op o.Equal ∷ [
 unfolding read_term term_precedence term_prefix term_climb called terms more_terms closed old term_parens term_operand range quantified term_operated image name read_link link_precedence link_prefix link_climb path_of link_parens link_operated expect ident none_fits same_operator word_of
 no_right_side = refl
 
--- `== a`
-no_left_side : read_term 9 1 (row 0 (k.Op o.Equal ∷ k.Ident (codes "a") ∷ [])) ≡
+-- `<= a`
+no_left_side : read_term 9 1 (row 0 (k.Op o.LessEqual ∷ k.Ident (codes "a") ∷ [])) ≡
     Err no_tree
 unfolding read_term term_precedence term_prefix term_climb called terms more_terms closed old term_parens term_operand range quantified term_operated image name read_link link_precedence link_prefix link_climb path_of link_parens link_operated expect ident none_fits same_operator word_of
 no_left_side = refl

@@ -1,5 +1,5 @@
 -- What reading finds where something is written.
-use Rattle.std.proofs.Common.{◌≡◌, ℕ, suc, ◌≤◌, ◌<◌, Ok, Err, List, refl}
+use Rattle.std.proofs.Common.{◌≡◌, ℕ, ◌≤◌, ◌<◌, Ok, Err, List, refl}
 use Rattle.token_reading.specs.Lexeme.{Lexeme}
 use Rattle.token_reading.specs.Outcome.{too_high, Outcome, Parser, ◌>>=◌}
 

@@ -1,10 +1,8 @@
 -- A contract that is written is read.
-use Rattle.std.proofs.Common.{◌≡◌, ℕ, zero, suc, ◌+◌, ◌≤◌, ◌<◌, List, [], ◌∷◌, ◌++◌, length, Bool, true, false, Option, Some, None, Ok, Err, refl, sym, ap, subst, arith, append_assoc}
+use Rattle.std.proofs.Common.{◌≡◌, ℕ, zero, suc, ◌+◌, ◌≤◌, ◌<◌, List, [], ◌∷◌, ◌++◌, length, Bool, true, false, Option, Some, None, Ok, refl, sym, ap, subst, arith, append_assoc}
 use Rattle.java_tokens.specs.declared.token.Operator.TheVariants as o
-use Rattle.java_tokens.specs.declared.token.TokenKind.TheVariants as k
-use Rattle.token_reading.specs.Lexeme.{Lexeme, lexeme, Then, same_operator, sees}
+use Rattle.token_reading.specs.Lexeme.{Lexeme, lexeme, same_operator, sees}
 use Rattle.token_reading.specs.Outcome.{Outcome, Parser}
-use Rattle.token_reading.specs.ReadType.{expect}
 use Rattle.token_reading.proofs.Found.{none_or}
 use Rattle.token_reading.proofs.Lexemes.{then_length, sees_it, expect_it}
 use Rattle.token_reading.proofs.Steps.{Or, found, higher, or_then, raise}
@@ -21,7 +19,7 @@ use Rattle.spec_trees.specs.Terms.{IsNumber, TermWithin}
 use Rattle.spec_trees.specs.Words.{word_kind, word_text}
 use Rattle.spec_trees.proofs.WordLemmas.{word_read}
 use Rattle.spec_reading.specs.ReadContract.{sees_text, expect_text, number, signed, bound, interval, ints, added, more_items, list_clause, term_from, ensures_clause, contract_node, read_contract}
-use Rattle.spec_reading.specs.ReadTerm.{term_follows, read_term}
+use Rattle.spec_reading.specs.ReadTerm.{term_follows}
 use Rattle.spec_reading.proofs.Claims as claims
 use Rattle.spec_reading.proofs.LinkFound.{name_read}
 use Rattle.spec_reading.proofs.TermFound.{every_term}

@@ -1,5 +1,5 @@
 -- What some short contracts are.
-use Rattle.std.proofs.Common.{◌≡◌, ℕ, ◌+◌, List, [], ◌∷◌, Bool, true, false, Option, Some, None, Ok, Err, codes, refl}
+use Rattle.std.proofs.Common.{◌≡◌, ℕ, ◌+◌, List, [], ◌∷◌, Bool, true, false, Some, None, Ok, Err, codes, refl}
 use Rattle.java_tokens.specs.declared.token.Keyword.TheVariants as w
 use Rattle.java_tokens.specs.declared.token.Operator.TheVariants as o
 use Rattle.java_tokens.specs.declared.token.TokenKind.{TokenKind}
@@ -9,10 +9,7 @@ use Rattle.token_reading.specs.Lexeme.{Lexeme, lexeme, same_operator}
 use Rattle.token_reading.specs.Outcome.{no_tree, too_high}
 use Rattle.token_reading.specs.ReadType.{expect, none_fits, ident_at, ident}
 use Rattle.spec_trees.specs.declared.link.LinkTree.TheVariants as r
-use Rattle.spec_trees.specs.declared.operator.LinkOp.TheVariants as link
 use Rattle.spec_trees.specs.declared.operator.PathOp.TheVariants as path
-use Rattle.spec_trees.specs.declared.operator.PrefixOp.TheVariants as prefix
-use Rattle.spec_trees.specs.declared.operator.Quantifier.TheVariants as quantifier
 use Rattle.spec_trees.specs.declared.operator.TermOp.TheVariants as op
 use Rattle.spec_trees.specs.declared.term.TermTree.TheVariants as t
 use Rattle.spec_trees.specs.Words.{word_of}

@@ -1,20 +1,15 @@
 -- A contract that is read is written.
-use Rattle.std.proofs.Common.{◌≡◌, ◌∙◌, ℕ, zero, suc, ◌≤◌, ◌<◌, if◌then◌else◌, nat_eq, List, [], ◌∷◌, ◌++◌, length, Bool, true, false, Option, Some, None, Ok, refl, sym, ap, subst, arith, append_assoc}
-use Rattle.std.specs.Cmp.Lexicographic.{pointwise, same_text}
+use Rattle.std.proofs.Common.{◌≡◌, ◌∙◌, ℕ, zero, suc, ◌≤◌, ◌<◌, List, [], ◌∷◌, ◌++◌, length, Bool, true, false, Some, None, refl, sym, ap, subst, arith, append_assoc}
+use Rattle.std.specs.Cmp.Lexicographic.{same_text}
 use Rattle.java_tokens.specs.declared.token.Operator.TheVariants as o
 use Rattle.java_tokens.specs.declared.token.TokenKind.{TokenKind}
 use Rattle.java_tokens.specs.declared.token.TokenKind.TheVariants as k
 use Rattle.token_reading.specs.Lexeme.{Lexeme, lexeme, place, Then, sees}
-use Rattle.token_reading.specs.Outcome.{Outcome, Parser}
+use Rattle.token_reading.specs.Outcome.{Parser}
 use Rattle.token_reading.specs.ReadType.{next}
 use Rattle.token_reading.proofs.Given.{Takes, MayTake, op_gives, none_gives}
 use Rattle.token_reading.proofs.Lexemes.{then_length, from_sees}
 use Rattle.token_reading.proofs.Steps.{Gives, gives, gives_none, gives_then, gives_map, gives_if}
-use Rattle.spec_trees.specs.declared.contract.AddedTree.{AddedTree}
-use Rattle.spec_trees.specs.declared.contract.BoundTree.{BoundTree}
-use Rattle.spec_trees.specs.declared.contract.ContractTree.{ContractTree}
-use Rattle.spec_trees.specs.declared.contract.IntsTree.{IntsTree}
-use Rattle.spec_trees.specs.declared.contract.NumberTree.{NumberTree}
 use Rattle.spec_trees.specs.declared.term.TermTree.{TermTree}
 use Rattle.spec_trees.specs.declared.word.ContractWord.{ContractWord}
 use Rattle.spec_trees.specs.declared.word.ContractWord.TheVariants as word
@@ -22,7 +17,7 @@ use Rattle.spec_trees.specs.Clauses.{MinusIf, IsBound, IntsClause, MoreItems, Li
 use Rattle.spec_trees.specs.Terms.{IsNumber, TermWithin}
 use Rattle.spec_trees.specs.Words.{word_kind, word_text}
 use Rattle.spec_reading.specs.ReadContract.{is_text_kind, sees_text, expect_text, number_by, number, signed, bound, interval, ints, added, more_items, list_clause, contract_of, term_from, ensures_clause, contract_node, read_contract}
-use Rattle.spec_reading.specs.ReadTerm.{term_follows, number_of, read_term}
+use Rattle.spec_reading.specs.ReadTerm.{term_follows, number_of}
 use Rattle.spec_reading.proofs.LinkSound.{name_gives}
 use Rattle.spec_reading.proofs.TermSound.{term_sound}
 use Rattle.spec_reading.proofs.TermTrees.{term_length, term_grown}

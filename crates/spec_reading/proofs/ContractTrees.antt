@@ -1,6 +1,6 @@
 -- The height of a contract or spec method is the least number with which it is written, and it is written with each
 -- greater one.
-use Rattle.std.proofs.Common.{◌≡◌, ℕ, zero, suc, ◌+◌, ◌≤◌, ◌<◌, max, List, [], ◌∷◌, map, arith}
+use Rattle.std.proofs.Common.{ℕ, zero, suc, ◌≤◌, List, [], ◌∷◌, map, arith}
 use Rattle.token_reading.specs.Height.{highest}
 use Rattle.token_reading.specs.Lexeme.{Lexeme}
 use Rattle.spec_trees.specs.declared.contract.ContractTree.{ContractTree}

@@ -1,10 +1,10 @@
 -- A relation that is written is read.
-use Rattle.std.proofs.Common.{◌≡◌, ◌∙◌, ℕ, zero, suc, ◌+◌, ◌≤◌, ◌<◌, max, nat_lt, List, [], ◌∷◌, length, Bool, true, false, Some, None, Ok, Err, refl, subst, arith}
+use Rattle.std.proofs.Common.{◌≡◌, ◌∙◌, ℕ, zero, suc, ◌+◌, ◌≤◌, ◌<◌, nat_lt, List, [], ◌∷◌, length, Bool, true, false, Ok, Err, refl, subst, arith}
 use Rattle.java_tokens.specs.declared.token.Operator.TheVariants as o
 use Rattle.java_tokens.specs.declared.token.TokenKind.TheVariants as k
 use Rattle.token_reading.specs.declared.name.Ident.{Ident}
 use Rattle.token_reading.specs.Lexeme.{Lexeme, lexeme, Then}
-use Rattle.token_reading.specs.Outcome.{too_high, Outcome, Parser}
+use Rattle.token_reading.specs.Outcome.{too_high, Parser}
 use Rattle.token_reading.specs.ReadType.{none_fits}
 use Rattle.token_reading.proofs.Lexemes.{expect_it, ident_read}
 use Rattle.token_reading.proofs.Tests.{below, not_below, from_below, from_not_below}

@@ -1,5 +1,5 @@
 -- A relation that is read is written.
-use Rattle.std.proofs.Common.{◌≡◌, ◌∙◌, ℕ, zero, suc, ◌+◌, ◌≤◌, ◌<◌, max, nat_lt, if◌then◌else◌, List, [], ◌∷◌, length, Bool, true, false, Option, Some, None, Ok, Err, refl, sym, ap, subst, arith}
+use Rattle.std.proofs.Common.{◌≡◌, ◌∙◌, ℕ, zero, suc, ◌+◌, ◌≤◌, ◌<◌, max, nat_lt, List, [], ◌∷◌, length, Option, Some, None, refl, sym, ap, subst, arith}
 use Rattle.java_tokens.specs.declared.token.Operator.{Operator}
 use Rattle.java_tokens.specs.declared.token.Operator.TheVariants as o
 use Rattle.java_tokens.specs.declared.token.TokenKind.{TokenKind}
@@ -7,11 +7,11 @@ use Rattle.java_tokens.specs.declared.token.TokenKind.TheVariants as k
 use Rattle.token_reading.specs.declared.name.Ident.{Ident}
 use Rattle.token_reading.specs.Lexeme.{Lexeme, lexeme, Then}
 use Rattle.token_reading.specs.Types.{IsIdent}
-use Rattle.token_reading.specs.Outcome.{too_high, Outcome, Parser, ◌>>=◌}
-use Rattle.token_reading.specs.ReadType.{next, ident_at, none_fits}
+use Rattle.token_reading.specs.Outcome.{Outcome, Parser}
+use Rattle.token_reading.specs.ReadType.{next, ident_at}
 use Rattle.token_reading.proofs.Given.{Takes, op_gives, ident_gives, none_gives}
 use Rattle.token_reading.proofs.Lexemes.{then_length}
-use Rattle.token_reading.proofs.Steps.{Gives, gives, gives_none, gives_high, gives_then, gives_map, gives_if}
+use Rattle.token_reading.proofs.Steps.{Gives, gives, gives_none, gives_high, gives_then, gives_if}
 use Rattle.token_reading.proofs.Tests.{from_below, from_not_below}
 use Rattle.spec_trees.specs.declared.link.LinkTree.{LinkTree, out-LinkTree, roll-LinkTree}
 use Rattle.spec_trees.specs.declared.link.LinkTree.TheOpen.{LinkTree-F}
@@ -26,7 +26,7 @@ use Rattle.spec_trees.specs.Links.{LinkLayer, path_sign, link_sign, link_op_leve
 use Rattle.spec_trees.specs.Words.{word_of, IsName}
 use Rattle.spec_reading.specs.ReadLink.{TallLink, plain_name, name, link_op_at, link_binds, link_follows, field_by, path_of, link_parens, link_prefix_operator, link_prefix_by, link_prefix, link_operated, link_behind, link_climb, link_precedence, read_link}
 use Rattle.spec_reading.proofs.LinkLevels.{link_after, link_op_range, link_lifts, link_follows_most, LinkLeads, link_leads}
-use Rattle.spec_reading.proofs.LinkTrees.{link_length, link_grown, link_leveled, link_made}
+use Rattle.spec_reading.proofs.LinkTrees.{link_grown, link_leveled, link_made}
 
 -- ---- names
 

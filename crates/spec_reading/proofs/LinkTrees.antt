@@ -1,13 +1,13 @@
 -- The height of a relation is the least number with which it is written, it is written with each greater one, and it
 -- takes a token.
-use Rattle.std.proofs.Common.{◌≡◌, ℕ, zero, suc, ◌+◌, ◌≤◌, ◌<◌, max, List, ◌∷◌, length, arith, ap, subst, sym}
+use Rattle.std.proofs.Common.{◌≡◌, ℕ, zero, suc, ◌+◌, ◌≤◌, ◌<◌, max, List, length, arith, ap, subst, sym}
 use Rattle.token_reading.specs.Lexeme.{Lexeme}
 use Rattle.token_reading.proofs.Lexemes.{then_length}
 use Rattle.spec_trees.specs.declared.link.LinkTree.{LinkTree, out-LinkTree, roll-LinkTree}
 use Rattle.spec_trees.specs.declared.link.LinkTree.TheOpen.{LinkTree-F}
 use Rattle.spec_trees.specs.declared.link.LinkTree.TheViews.{out-roll-LinkTree, roll-out-LinkTree}
 use Rattle.spec_trees.specs.declared.link.LinkTree.TheFolds.{fold-roll-LinkTree}
-use Rattle.spec_trees.specs.Links.{LinkLayer, link_op_level, link_level, LinkNode, LinkWithin}
+use Rattle.spec_trees.specs.Links.{LinkLayer, link_level, LinkNode, LinkWithin}
 use Rattle.spec_trees.specs.Height.{link_layer_height, link_height}
 
 -- the height of a node, by those of its parts

@@ -2,9 +2,6 @@
 use Rattle.std.proofs.Common.{◌≡◌, ℕ, zero, suc, ◌≤◌, ◌<◌, List, ◌∷◌, length, Ok, codes, refl, ap, arith}
 use Rattle.java_tokens.specs.declared.token.Operator.TheVariants as o
 use Rattle.java_tokens.specs.declared.token.TokenKind.TheVariants as k
-use Rattle.token_reading.specs.declared.name.Ident.{Ident}
-use Rattle.token_reading.specs.declared.name.ParamTree.{ParamTree}
-use Rattle.token_reading.specs.declared.name.TypeTree.{TypeTree}
 use Rattle.token_reading.specs.Height.{type_height, params_height}
 use Rattle.token_reading.specs.Lexeme.{Lexeme, lexeme, Then}
 use Rattle.token_reading.specs.Types.{IsIdent, IsType, Params}
@@ -12,9 +9,9 @@ use Rattle.token_reading.proofs.Found.{op_or, ident_or, named_type_or, params_or
 use Rattle.token_reading.proofs.Steps.{Or, found, or_then, raise}
 use Rattle.spec_trees.specs.declared.contract.SpecTree.{SpecTree}
 use Rattle.spec_trees.specs.declared.term.TermTree.{TermTree}
-use Rattle.spec_trees.specs.Clauses.{IsSpec, SpecWithin}
+use Rattle.spec_trees.specs.Clauses.{SpecWithin}
 use Rattle.spec_trees.specs.Terms.{TermWithin}
-use Rattle.spec_reading.specs.ReadContract.{expect_text, spec_of, definition, defined, declared, spec_node, read_spec}
+use Rattle.spec_reading.specs.ReadContract.{expect_text, definition, defined, declared, spec_node, read_spec}
 use Rattle.spec_reading.specs.ReadTerm.{term_follows}
 use Rattle.spec_reading.proofs.ContractFound.{term_or}
 

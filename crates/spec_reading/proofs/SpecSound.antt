@@ -1,14 +1,10 @@
 -- A spec method that is read is written.
-use Rattle.std.proofs.Common.{◌≡◌, ℕ, zero, suc, ◌≤◌, ◌<◌, List, ◌∷◌, length, codes, arith}
+use Rattle.std.proofs.Common.{ℕ, zero, suc, ◌≤◌, ◌<◌, List, length, codes, arith}
 use Rattle.java_tokens.specs.declared.token.Operator.TheVariants as o
 use Rattle.java_tokens.specs.declared.token.TokenKind.TheVariants as k
-use Rattle.token_reading.specs.declared.name.Ident.{Ident}
-use Rattle.token_reading.specs.declared.name.TypeTree.{TypeTree}
 use Rattle.token_reading.specs.Height.{type_height, params_height}
-use Rattle.token_reading.specs.Lexeme.{Lexeme, lexeme, place, Then}
-use Rattle.token_reading.specs.Types.{IsIdent, IsType}
+use Rattle.token_reading.specs.Lexeme.{Lexeme, place, Then}
 use Rattle.token_reading.proofs.Given.{Takes, op_gives, ident_gives, type_gives, params_gives, none_gives}
-use Rattle.token_reading.proofs.Lexemes.{TypeWithin}
 use Rattle.token_reading.proofs.Steps.{Gives, gives, gives_then, gives_map}
 use Rattle.spec_trees.specs.Clauses.{IsSpec, SpecWithin}
 use Rattle.spec_trees.specs.Terms.{TermWithin}

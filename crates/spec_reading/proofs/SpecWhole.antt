@@ -2,7 +2,7 @@
 use Rattle.std.proofs.Common.{◌≡◌, ◌∙◌, ℕ, ◌≤◌, ◌<◌, max, List, [], length, Ok, Err, sym, ap, subst, arith}
 use Rattle.token_reading.specs.Lexeme.{Lexeme}
 use Rattle.token_reading.specs.Outcome.{no_tree, too_high, Outcome}
-use Rattle.token_reading.proofs.Steps.{Or, found, higher, Gives, gives, gives_none, gives_high}
+use Rattle.token_reading.proofs.Steps.{Or, found, higher, Gives, gives, gives_high}
 use Rattle.spec_trees.specs.declared.contract.SpecTree.{SpecTree}
 use Rattle.spec_trees.specs.Clauses.{SpecWithin}
 use Rattle.spec_trees.specs.Height.{spec_height}

@@ -1,5 +1,5 @@
 -- A term that is written is read.
-use Rattle.std.proofs.Common.{◌≡◌, ◌∙◌, ℕ, zero, suc, ◌+◌, ◌≤◌, ◌<◌, max, nat_lt, List, [], ◌∷◌, ◌++◌, map, length, Bool, true, false, Some, None, Ok, Err, refl, subst, arith, append_assoc}
+use Rattle.std.proofs.Common.{◌≡◌, ◌∙◌, ℕ, zero, suc, ◌+◌, ◌≤◌, ◌<◌, max, nat_lt, List, [], ◌∷◌, ◌++◌, map, length, Bool, true, false, Ok, Err, refl, subst, arith, append_assoc}
 use Rattle.java_tokens.specs.declared.token.Keyword.TheVariants as w
 use Rattle.java_tokens.specs.declared.token.Operator.TheVariants as o
 use Rattle.java_tokens.specs.declared.token.TokenKind.{TokenKind}
@@ -7,7 +7,7 @@ use Rattle.java_tokens.specs.declared.token.TokenKind.TheVariants as k
 use Rattle.token_reading.specs.declared.name.Ident.{Ident}
 use Rattle.token_reading.specs.Height.{highest}
 use Rattle.token_reading.specs.Lexeme.{Lexeme, lexeme, Then, same_operator, sees}
-use Rattle.token_reading.specs.Outcome.{too_high, Outcome, Parser}
+use Rattle.token_reading.specs.Outcome.{too_high, Parser}
 use Rattle.token_reading.specs.ReadType.{none_fits}
 use Rattle.token_reading.proofs.Lexemes.{sees_it, expect_it}
 use Rattle.token_reading.proofs.Tests.{below, not_below, from_below, from_not_below}
@@ -23,18 +23,17 @@ use Rattle.spec_trees.specs.declared.term.TermTree.TheOpen.{TermTree-F}
 use Rattle.spec_trees.specs.declared.term.TermTree.TheVariants as t
 use Rattle.spec_trees.specs.declared.term.TermTree.TheVariants.{rolls-Number, rolls-Bool, rolls-Null, rolls-This, rolls-Answer, rolls-Name, rolls-Call, rolls-Old, rolls-Paren, rolls-Image, rolls-Prefix, rolls-Binary, rolls-Quantified}
 use Rattle.spec_trees.specs.declared.term.TermTree.TheViews.{roll-out-TermTree}
-use Rattle.spec_trees.specs.declared.word.ContractWord.{ContractWord}
 use Rattle.spec_trees.specs.declared.word.ContractWord.TheVariants as word
 use Rattle.spec_trees.specs.Links.{LinkWithin}
 use Rattle.spec_trees.specs.Terms.{TermLayer, IsNumber, truth_word, prefix_sign, quantifier_word, term_sign, op_level, left_level, right_level, prefix_level, operand_level, term_level, MoreTerms, Terms, TermNode, TermWithin}
-use Rattle.spec_trees.specs.Words.{word_kind, word_text, IsName}
+use Rattle.spec_trees.specs.Words.{word_kind, IsName}
 use Rattle.spec_trees.specs.Height.{link_height, term_height}
 use Rattle.spec_trees.proofs.TermHeights.{term_number, term_bool, term_null, term_this, term_answer, term_name, term_call, term_old, term_paren, term_image, term_prefix as prefix_height, term_binary, term_quantified}
 use Rattle.spec_trees.proofs.WordLemmas.{word_read}
 use Rattle.spec_reading.specs.declared.term_infix.TermInfix.{TermInfix}
 use Rattle.spec_reading.specs.declared.term_infix.TermInfix.TheVariants as i
 use Rattle.spec_reading.specs.ReadLink.{TallLink, read_link}
-use Rattle.spec_reading.specs.ReadTerm.{TallTerm, TallTerms, term_infix, term_binds, term_follows, op_end, prefix_end, sees_variable, more_terms, terms, called, closed, old, term_parens, term_operand, range, quantified, word_prefix, operator_prefix, term_prefix_by, term_prefix, term_operated, image, term_behind, term_climb, term_precedence, read_term}
+use Rattle.spec_reading.specs.ReadTerm.{TallTerm, term_infix, term_binds, term_follows, op_end, prefix_end, sees_variable, more_terms, terms, called, closed, old, term_parens, term_operand, range, quantified, term_prefix_by, term_prefix, term_operated, image, term_behind, term_climb, term_precedence, read_term}
 use Rattle.spec_reading.proofs.Claims.{Found, found, over, found_then}
 use Rattle.spec_reading.proofs.LinkFound.{finds_links, name_read}
 use Rattle.spec_reading.proofs.LinkLevels.{link_follows_most}

@@ -1,5 +1,5 @@
 -- What may stand after a term of a level.
-use Rattle.std.proofs.Common.{◌≡◌, ◌∙◌, ℕ, ◌+◌, ◌≤◌, ◌<◌, List, [], ◌∷◌, Bool, true, false, Option, Some, None, refl, sym, ap, arith}
+use Rattle.std.proofs.Common.{◌≡◌, ◌∙◌, ℕ, ◌+◌, ◌≤◌, ◌<◌, List, [], ◌∷◌, Bool, true, false, Option, Some, refl, sym, ap, arith}
 use Rattle.java_tokens.specs.declared.token.Operator.{Operator}
 use Rattle.java_tokens.specs.declared.token.Operator.TheVariants as o
 use Rattle.java_tokens.specs.declared.token.TokenKind.{TokenKind}
@@ -15,7 +15,7 @@ use Rattle.spec_trees.specs.declared.term.TermTree.TheOpen.{TermTree-F}
 use Rattle.spec_trees.specs.declared.word.ContractWord.{ContractWord}
 use Rattle.spec_trees.specs.declared.word.ContractWord.TheVariants as word
 use Rattle.spec_trees.specs.Terms.{TermLayer, term_sign, op_level, left_level, right_level, prefix_level, operand_level, term_level}
-use Rattle.spec_trees.specs.Words.{word_kind, word_text, word_of}
+use Rattle.spec_trees.specs.Words.{word_kind, word_of}
 use Rattle.spec_trees.proofs.WordLemmas.{word_read, word_spelled}
 use Rattle.spec_reading.specs.declared.term_infix.TermInfix.{TermInfix}
 use Rattle.spec_reading.specs.declared.term_infix.TermInfix.TheVariants as i

@@ -1,5 +1,5 @@
 -- A term that is read is written.
-use Rattle.std.proofs.Common.{◌≡◌, ◌∙◌, ℕ, zero, suc, ◌+◌, ◌≤◌, ◌<◌, max, nat_lt, if◌then◌else◌, List, [], ◌∷◌, ◌++◌, length, Bool, true, false, Option, Some, None, Ok, Err, refl, sym, ap, subst, arith, append_assoc}
+use Rattle.std.proofs.Common.{◌≡◌, ◌∙◌, ℕ, zero, suc, ◌+◌, ◌≤◌, ◌<◌, max, nat_lt, List, [], ◌∷◌, ◌++◌, length, true, false, Option, Some, None, Ok, refl, sym, ap, subst, arith, append_assoc}
 use Rattle.java_tokens.specs.declared.token.Keyword.{Keyword}
 use Rattle.java_tokens.specs.declared.token.Keyword.TheVariants as w
 use Rattle.java_tokens.specs.declared.token.Operator.{Operator}
@@ -9,13 +9,12 @@ use Rattle.java_tokens.specs.declared.token.TokenKind.TheVariants as k
 use Rattle.token_reading.specs.declared.name.Ident.{Ident}
 use Rattle.token_reading.specs.Lexeme.{Lexeme, lexeme, Then, sees}
 use Rattle.token_reading.specs.Types.{IsIdent}
-use Rattle.token_reading.specs.Outcome.{too_high, Outcome, Parser, ◌>>=◌}
-use Rattle.token_reading.specs.ReadType.{next, ident_at, none_fits}
-use Rattle.token_reading.proofs.Given.{Takes, op_gives, none_gives}
+use Rattle.token_reading.specs.Outcome.{Outcome, Parser}
+use Rattle.token_reading.specs.ReadType.{next, ident_at}
+use Rattle.token_reading.proofs.Given.{op_gives, none_gives}
 use Rattle.token_reading.proofs.Lexemes.{then_length, from_sees}
 use Rattle.token_reading.proofs.Steps.{Gives, gives, gives_none, gives_high, gives_then, gives_map, gives_if}
 use Rattle.token_reading.proofs.Tests.{from_below, from_not_below}
-use Rattle.spec_trees.specs.declared.link.LinkTree.{LinkTree}
 use Rattle.spec_trees.specs.declared.operator.PrefixOp.{PrefixOp}
 use Rattle.spec_trees.specs.declared.operator.PrefixOp.TheVariants as prefix
 use Rattle.spec_trees.specs.declared.operator.Quantifier.{Quantifier}
@@ -39,7 +38,7 @@ use Rattle.spec_reading.specs.ReadTerm.{TallTerm, TallTerms, term_binds, infix_a
 use Rattle.spec_reading.proofs.LinkSound.{LinkSound, link_sound, name_gives}
 use Rattle.spec_reading.proofs.LinkTrees.{link_grown}
 use Rattle.spec_reading.proofs.TermLevels.{term_after, op_range, prefix_range, term_lifts, term_hangs_on, term_follows_most, name_stop, TermLeads, term_leads}
-use Rattle.spec_reading.proofs.TermTrees.{term_grown, term_leveled, term_made, terms_map}
+use Rattle.spec_reading.proofs.TermTrees.{term_grown, term_leveled, term_made}
 
 -- The term t is written at the front of xs as one of level l, within the budget, and each level of it takes a token.
 pub record WrittenTerm (b l : ℕ) (xs : List Lexeme) (t : TallTerm) (rest : List Lexeme) : Type 0 where

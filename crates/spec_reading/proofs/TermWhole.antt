@@ -2,8 +2,8 @@
 use Rattle.std.proofs.Common.{◌≡◌, ◌∙◌, ℕ, ◌≤◌, ◌<◌, max, List, [], length, Ok, Err, sym, ap, subst, arith}
 use Rattle.token_reading.specs.Lexeme.{Lexeme}
 use Rattle.token_reading.specs.Outcome.{no_tree, too_high, Outcome}
-use Rattle.token_reading.proofs.Steps.{Gives, gives, gives_none, gives_high}
-use Rattle.spec_trees.specs.declared.term.TermTree.{TermTree, out-TermTree}
+use Rattle.token_reading.proofs.Steps.{Gives, gives, gives_high}
+use Rattle.spec_trees.specs.declared.term.TermTree.{TermTree}
 use Rattle.spec_trees.specs.Terms.{TermWithin}
 use Rattle.spec_trees.specs.Height.{term_height}
 use Rattle.spec_reading.specs.ReadTerm.{TallTerm, term_follows, read_term}

@@ -1,5 +1,5 @@
 -- The height of each kind of relation, by those of its parts.
-use Rattle.std.proofs.Common.{◌≡◌, ◌∙◌, ℕ, ◌+◌, max, List, Bool, map, sym, ap}
+use Rattle.std.proofs.Common.{◌≡◌, ◌∙◌, ℕ, ◌+◌, max, sym, ap}
 use Rattle.spec_trees.specs.declared.link.LinkTree.{LinkTree}
 use Rattle.spec_trees.specs.declared.link.LinkTree.TheFolds.{fold-roll-LinkTree}
 use Rattle.spec_trees.specs.declared.link.LinkTree.TheOpen.{LinkTree-F}

@@ -1,5 +1,5 @@
 -- What word a text is.
-use Rattle.std.proofs.Common.{◌≡◌, ℕ, zero, suc, ◌+◌, ◌<◌, List, [], ◌∷◌, length, drop, get_or, arith, Bool, true, false, Option, Some, None, find, cond, refl, sym, subst}
+use Rattle.std.proofs.Common.{◌≡◌, ℕ, zero, suc, ◌+◌, ◌<◌, List, [], ◌∷◌, length, drop, get_or, arith, Bool, true, false, Option, Some, find, cond, refl, sym, subst}
 use Rattle.std.specs.Cmp.Lexicographic.{same_text}
 use Rattle.spec_trees.specs.declared.word.ContractWord.{ContractWord}
 use Rattle.spec_trees.specs.declared.word.ContractWord.TheVariants as word

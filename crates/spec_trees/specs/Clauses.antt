@@ -6,7 +6,7 @@
 --     Spec     = "spec" Type Ident "(" [ Params ] ")" "=" Term ";"
 --
 -- An Ident of a contract is no word of contracts; those before the `=` of a spec method may be.
-use Rattle.std.specs.Prelude.{◌≡◌, ℕ, zero, suc, ◌≤◌, max, List, [], ◌∷◌, Bool, true, false, Option, Some, None, codes}
+use Rattle.std.specs.Prelude.{◌≡◌, ℕ, zero, suc, ◌≤◌, List, [], ◌∷◌, Bool, true, false, Option, Some, None, codes}
 use Rattle.java_tokens.specs.declared.token.Operator.TheVariants as o
 use Rattle.java_tokens.specs.declared.token.TokenKind.TheVariants as k
 use Rattle.token_reading.specs.Height.{type_height, params_height}

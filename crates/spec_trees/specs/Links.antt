@@ -4,7 +4,7 @@
 --     RAdd  = RMeet { ( "+" | "-" ) RMeet }
 --     RMeet = RJoin { "&" RJoin }
 --     RJoin = Link { "." Link }
-use Rattle.std.specs.Prelude.{◌≡◌, ℕ, zero, suc, ◌+◌, ◌≤◌, List, [], ◌∷◌}
+use Rattle.std.specs.Prelude.{◌≡◌, ℕ, zero, suc, ◌+◌, ◌≤◌, List, ◌∷◌}
 use Rattle.java_tokens.specs.declared.token.Operator.{Operator}
 use Rattle.java_tokens.specs.declared.token.Operator.TheVariants as o
 use Rattle.java_tokens.specs.declared.token.TokenKind.TheVariants as k

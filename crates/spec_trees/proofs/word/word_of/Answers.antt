@@ -1,4 +1,4 @@
-use Rattle.std.proofs.Common.{◌≡◌, ◌∙◌, ℕ, ◌+◌, ◌<◌, false, sym, arith, rules}
+use Rattle.std.proofs.Common.{◌∙◌, sym}
 use Rattle.spec_trees.specs.Words.{all_words, is_word}
 use Rattle.spec_trees.proofs.WordLemmas.{find_on}
 use Rattle.spec_trees.proofs.word.word_of.Goals as goal

@@ -7,6 +7,7 @@ use Rattle.token_reading.specs.declared.name.BaseType.TheVariants as base
 use Rattle.token_reading.specs.declared.name.ParamTree.{ParamTree}
 use Rattle.token_reading.specs.declared.name.TypeTree.{TypeTree}
 use Rattle.token_reading.specs.Lexeme.{Lexeme, Then}
+use Rattle.token_reading.specs.ReadType.{next}
 use Rattle.token_reading.specs.Types.{IsBase, Brackets, IsType, Param, MoreParams, Params}
 use Rattle.spec_trees.specs.declared.contract.AddedTree.{AddedTree}
 use Rattle.spec_trees.specs.declared.contract.BoundTree.{BoundTree}
@@ -194,3 +195,13 @@ counted from all rest e =
     let whole : drop (from + e.0) all ≡ rest = sym (drop-drop e.0 from all) ∙ e.1 in
     let last = counted_by (from + e.0) all in
     rw whole at last
+
+-- ---- one token after the other
+
+drop_none : (n : ℕ) → drop {A = Lexeme} n [] ≡ []
+drop_none zero = refl
+drop_none (suc n) = refl
+
+pub skip_next : (n : ℕ) (xs : List Lexeme) → drop (suc n) xs ≡ drop n (next xs)
+skip_next n [] = sym (drop_none n)
+skip_next n (x ∷ xs) = refl

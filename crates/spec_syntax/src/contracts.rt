@@ -32,6 +32,7 @@ fn contract_node(
 }
 
 /// Takes a contract of at most this height.
+#[tactic(auto, unfolding(spec_reading::specs::ReadContract::read_contract))]
 pub fn contract(
     alloc: Global,
     tokens: &mut Tokens<'_>,

@@ -101,6 +101,7 @@ fn spec_node(alloc: Global, tokens: &mut Tokens<'_>, most: u32) -> Result<SpecTr
 }
 
 /// Takes a spec method of at most this height.
+#[tactic(auto, unfolding(spec_reading::specs::ReadContract::read_spec))]
 pub fn spec_method(alloc: Global, tokens: &mut Tokens<'_>, most: u32) -> Result<SpecTree, Refusal>
     requires { most ≤ 200 }
     ensures { Reads (spec.read_spec most tokens.old) result tokens.new }

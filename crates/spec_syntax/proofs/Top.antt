@@ -5,6 +5,9 @@ use Rattle.java_tokens.specs.declared.token.Operator.TheVariants as o
 use Rattle.java_tokens.specs.declared.token.Token.{Token}
 use Rattle.token_reading.specs.Lexeme.{Lexeme, numbered, sees}
 use Rattle.token_reading.specs.Outcome.{no_tree, too_high, Outcome, ◌>>=◌}
+use Rattle.token_reading.specs.Reads.{Fails}
+use Rattle.token_reading.specs.declared.refusal.Refusal.{Refusal}
+use Rattle.token_reading.specs.declared.refusal.Refusal.TheVariants as refusal
 use Rattle.token_reading.proofs.Cursor.{length_numbered}
 use Rattle.token_reading.proofs.Lexemes.{from_sees}
 use Rattle.spec_trees.specs.declared.contract.ContractTree.{ContractTree}
@@ -16,7 +19,7 @@ use Rattle.spec_reading.specs.ReadTerm.{term_follows}
 use Rattle.spec_reading.proofs.ContractTrees.{contract_at_most, spec_at_most}
 use Rattle.spec_reading.proofs.ContractWhole.{one_contract, gives_contracts, refuses_contracts, refuses_high_contracts}
 use Rattle.spec_reading.proofs.SpecWhole.{one_spec, gives_specs, refuses_specs, refuses_high_specs}
-use Rattle.spec_syntax.specs.Answer.{tokens_from, SpellsContract, IsOnlyContract, read_before_body, SpellsSpec, IsOnlySpec}
+use Rattle.spec_syntax.specs.Answer.{tokens_from, SpellsContract, IsOnlyContract, HasContractCause, read_before_body, SpellsSpec, IsOnlySpec, HasSpecCause, refused}
 use Rattle.spec_syntax.proofs.Suffixes.{Ends, contract_end, spec_end, counted}
 
 -- ---- numbers of tokens
@@ -179,3 +182,17 @@ pub spec_long_enough : (tokens : List Token) (from : ℕ) → read_spec 200 (tok
     → from + 200 ≤ length tokens
 spec_long_enough tokens from is =
     omega (arith, (refuses_high_specs 200 (tokens_from from tokens) is).1, from_length tokens from)
+
+-- ---- refusals
+
+pub contract_cause : (tokens : List Token) (from at : ℕ) (e : Refusal) → Fails (read_before_body 200 (tokens_from from tokens)) e → at ≤ length tokens
+    → HasContractCause (refused e at) tokens from
+contract_cause tokens from at refusal.NoTree is fits = (nothing tokens from is, fits)
+contract_cause tokens from at refusal.TooHigh is fits = (high_ones tokens from is, long_enough tokens from is)
+contract_cause tokens from at refusal.OutOfMemory is fits = tt
+
+pub spec_cause : (tokens : List Token) (from at : ℕ) (e : Refusal) → Fails (read_spec 200 (tokens_from from tokens)) e → at ≤ length tokens
+    → HasSpecCause (refused e at) tokens from
+spec_cause tokens from at refusal.NoTree is fits = (spec_nothing tokens from is, fits)
+spec_cause tokens from at refusal.TooHigh is fits = (spec_high_ones tokens from is, spec_long_enough tokens from is)
+spec_cause tokens from at refusal.OutOfMemory is fits = tt

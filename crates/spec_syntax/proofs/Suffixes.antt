@@ -1,5 +1,5 @@
 -- What stands after a tree is the end of the list on which it is written.
-use Rattle.std.proofs.Common.{◌≡◌, ◌∙◌, ℕ, zero, suc, ◌+◌, ◌-◌, ◌≤◌, List, [], ◌∷◌, Bool, true, false, Option, Some, None, drop, length, refl, sym, ap, arith}
+use Rattle.std.proofs.Common.{◌≡◌, ◌∙◌, ℕ, zero, suc, ◌+◌, ◌-◌, List, [], ◌∷◌, Bool, true, false, Option, Some, None, drop, length, refl, sym, ap, arith}
 use Rattle.std.proofs.lemmas.List.{drop-drop}
 use Rattle.java_tokens.specs.declared.token.TokenKind.{TokenKind}
 use Rattle.token_reading.specs.declared.name.BaseType.{BaseType}

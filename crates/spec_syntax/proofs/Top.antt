@@ -1,5 +1,5 @@
 -- What reading says of the tokens from a number on.
-use Rattle.std.proofs.Common.{◌≡◌, ◌∙◌, ℕ, ◌+◌, ◌-◌, ◌≤◌, ◌<◌, if◌then◌else◌, List, [], ◌∷◌, drop, length, Bool, true, false, Ok, Err, refl, sym, ap, subst, arith}
+use Rattle.std.proofs.Common.{◌≡◌, ◌∙◌, ℕ, ◌+◌, ◌-◌, ◌≤◌, ◌<◌, if◌then◌else◌, List, [], ◌∷◌, length, Bool, true, false, Ok, Err, refl, ap, arith}
 use Rattle.std.proofs.lemmas.List.{length-drop}
 use Rattle.java_tokens.specs.declared.token.Operator.TheVariants as o
 use Rattle.java_tokens.specs.declared.token.Token.{Token}
@@ -12,7 +12,6 @@ use Rattle.token_reading.proofs.Cursor.{length_numbered}
 use Rattle.token_reading.proofs.Lexemes.{from_sees}
 use Rattle.spec_trees.specs.declared.contract.ContractTree.{ContractTree}
 use Rattle.spec_trees.specs.declared.contract.SpecTree.{SpecTree}
-use Rattle.spec_trees.specs.Clauses.{ContractWithin, SpecWithin}
 use Rattle.spec_trees.specs.Height.{contract_height, spec_height}
 use Rattle.spec_reading.specs.ReadContract.{read_contract, read_spec}
 use Rattle.spec_reading.specs.ReadTerm.{term_follows}

@@ -9,11 +9,7 @@ use token_reading::{Refusal, Tokens};
 
 /// A contract whose parts have at most this height.
 #[tactic(auto, unfolding(spec_reading::specs::ReadContract::contract_node))]
-fn contract_node(
-    alloc: Global,
-    tokens: &mut Tokens<'_>,
-    most: u32,
-) -> Result<ContractTree, Refusal>
+fn contract_node(alloc: Global, tokens: &mut Tokens<'_>, most: u32) -> Result<ContractTree, Refusal>
     requires { most ≤ 200 }
     ensures { Reads (spec.contract_node most tokens.old) result tokens.new }
 {
@@ -33,11 +29,7 @@ fn contract_node(
 
 /// Takes a contract of at most this height.
 #[tactic(auto, unfolding(spec_reading::specs::ReadContract::read_contract))]
-pub fn contract(
-    alloc: Global,
-    tokens: &mut Tokens<'_>,
-    most: u32,
-) -> Result<ContractTree, Refusal>
+pub fn contract(alloc: Global, tokens: &mut Tokens<'_>, most: u32) -> Result<ContractTree, Refusal>
     requires { most ≤ 200 }
     ensures { Reads (spec.read_contract most tokens.old) result tokens.new }
 {

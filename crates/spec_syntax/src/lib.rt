@@ -26,5 +26,7 @@ mod term_prefix;
 pub use contracts::contract;
 pub use entry::{parse_contract, parse_spec_method};
 pub use spec_methods::spec_method;
-pub use spec_trees::{AddedTree, BoundTree, ContractTree, IntsTree, LinkTree, NumberTree, SpecTree, TermTree};
+pub use spec_trees::{
+    AddedTree, BoundTree, ContractTree, IntsTree, LinkTree, NumberTree, SpecTree, TermTree,
+};
 pub use token_reading::ParseError;

@@ -159,7 +159,12 @@ impl<F: Fn(Global, &mut Tokens<'_>, u32, u8) -> Result<TallLink, Refusal>> LinkG
 
     /// Goes on with what binds as tightly as `least`.
     #[tactic(auto, unfolding(spec_reading::specs::ReadLink::link_climb))]
-    fn climb(&self, tokens: &mut Tokens<'_>, least: u8, mut left: TallLink) -> Result<TallLink, Refusal>
+    fn climb(
+        &self,
+        tokens: &mut Tokens<'_>,
+        least: u8,
+        mut left: TallLink,
+    ) -> Result<TallLink, Refusal>
         requires part { NestsLinks self.now.parts (F.pre self.now.read) (F.post self.now.read) }
         requires low { self.now.parts < 200 }
         requires operand { left.1 ≤ self.now.parts + 1 }

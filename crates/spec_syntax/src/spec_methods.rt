@@ -75,12 +75,7 @@ fn defined(
 
 /// What stands after `spec`.
 #[tactic(auto, unfolding(spec_reading::specs::ReadContract::declared))]
-fn declared(
-    alloc: Global,
-    tokens: &mut Tokens<'_>,
-    most: u32,
-    at: u32,
-) -> Result<SpecTree, Refusal>
+fn declared(alloc: Global, tokens: &mut Tokens<'_>, most: u32, at: u32) -> Result<SpecTree, Refusal>
     requires { most ≤ 200 }
     ensures { Reads (spec.declared most at tokens.old) result tokens.new }
 {

@@ -1,4 +1,4 @@
-use Rattle.std.proofs.Common.{◌≡◌, ℕ, suc, ◌+◌, ◌-◌, ap, arith, refl, rules, sym}
+use Rattle.std.proofs.Common.{◌≡◌, suc, ◌+◌, ◌-◌, ap, arith, refl, rules, sym}
 use Rattle.std.proofs.lemmas.Grind.{common_steps}
 use Rattle.spec_reading.specs.ReadLink.{read_link}
 use Rattle.spec_reading.specs.ReadTerm.{term_climb, read_term}
@@ -50,7 +50,7 @@ loop-turn-preserved g c =
         sym c.skip.ensures,
         c.in_ok-left.ensures.reads,
       )
-      refl,
+          refl,
       first_of (search rules, grind (arith, common_steps)),
     )
 

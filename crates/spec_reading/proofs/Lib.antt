@@ -16,6 +16,7 @@ pub mod ContractWhole
 pub mod SpecSound
 pub mod SpecFound
 pub mod SpecWhole
+pub mod Lookahead
 pub mod OperandRows
 pub mod TermRows
 pub mod ContractRows

@@ -1,10 +1,15 @@
 -- What is claimed of spec methods.
-use Rattle.std.specs.Prelude.{◌≡◌, ℕ, ◌<◌, ◌≤◌, List, length, Ok, Err}
-use Rattle.token_reading.specs.Lexeme.{Lexeme}
+use Rattle.std.specs.Prelude.{◌≡◌, ℕ, ◌<◌, ◌≤◌, List, length, true, Ok, Err, codes}
+use Rattle.java_tokens.specs.declared.token.TokenKind.TheVariants as k
+use Rattle.token_reading.specs.declared.name.Ident.{Ident}
+use Rattle.token_reading.specs.declared.name.TypeTree.{TypeTree}
+use Rattle.token_reading.specs.Lexeme.{Lexeme, Then}
+use Rattle.token_reading.specs.Types.{IsIdent, IsType}
 use Rattle.token_reading.specs.Outcome.{no_tree, too_high}
 use Rattle.spec_trees.specs.declared.contract.SpecTree.{SpecTree}
 use Rattle.spec_trees.specs.Clauses.{SpecWithin}
 use Rattle.spec_trees.specs.Height.{spec_height}
+use Rattle.spec_reading.specs.Lookahead.{is_spec}
 use Rattle.spec_reading.specs.ReadContract.{read_spec}
 
 -- the spec method, of some height, is written at the front
@@ -36,3 +41,16 @@ RefusesHighSpecs = (n : ℕ) (xs : List Lexeme) → read_spec n xs ≡ Err too_h
 abbrev pub SpecHeightIsLeast : Type 0
 SpecHeightIsLeast = (n : ℕ) (t : SpecTree) (xs rest : List Lexeme) → SpecWithin n t xs rest
     → (spec_height t ≤ n) × ((m : ℕ) → spec_height t ≤ m → SpecWithin m t xs rest)
+
+-- `spec`, a type and an identifier, with which a spec method begins
+abbrev pub BeginsSpec : List Lexeme → Type 0
+BeginsSpec xs =
+    (ys : List Lexeme) × Then (k.Ident (codes "spec")) xs ys × (t : TypeTree) × (zs : List Lexeme) × IsType t ys zs
+    × (x : Ident) × (rest : List Lexeme) × IsIdent x zs rest
+
+-- The look-ahead sees just this, and each spec method begins so.
+abbrev pub SeesSpecs : Type 0
+SeesSpecs = (xs : List Lexeme) → (is_spec xs ≡ true → BeginsSpec xs) × (BeginsSpec xs → is_spec xs ≡ true)
+
+abbrev pub SpecsBeginSo : Type 0
+SpecsBeginSo = (t : SpecTree) (xs rest : List Lexeme) → SpecStands t xs rest → BeginsSpec xs

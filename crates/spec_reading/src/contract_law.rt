@@ -1,5 +1,5 @@
 ghost use Rattle.spec_reading.specs.ContractLaws.{OneContract, FindsContracts, GivesContracts, RefusesContracts, RefusesHighContracts, ContractHeightIsLeast};
-ghost use Rattle.spec_reading.specs.SpecLaws.{OneSpec, FindsSpecs, GivesSpecs, RefusesSpecs, RefusesHighSpecs, SpecHeightIsLeast};
+ghost use Rattle.spec_reading.specs.SpecLaws.{OneSpec, FindsSpecs, GivesSpecs, RefusesSpecs, RefusesHighSpecs, SpecHeightIsLeast, SeesSpecs, SpecsBeginSo};
 
 /// No tokens are two contracts, whatever their heights.
 pub fn one_contract()
@@ -37,4 +37,11 @@ pub fn spec_methods_are_read()
 /// The height of a spec method is the least number with which it is written.
 pub fn spec_height_is_least()
     ensures { SpecHeightIsLeast }
+{}
+
+/// The look-ahead sees a spec method exactly where `spec`, a type and an identifier stand, and each spec method begins
+/// so.
+pub fn spec_methods_are_seen()
+    ensures sees { SeesSpecs }
+    ensures begins { SpecsBeginSo }
 {}

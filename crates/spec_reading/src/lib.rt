@@ -14,7 +14,7 @@ mod term_law;
 
 pub use contract_law::{
     contract_height_is_least, contracts_are_read, one_contract, one_spec_method,
-    spec_height_is_least, spec_methods_are_read,
+    spec_height_is_least, spec_methods_are_read, spec_methods_are_seen,
 };
 pub use term_infix::TermInfix;
 pub use term_law::{one_term, term_height_is_least, terms_are_read};

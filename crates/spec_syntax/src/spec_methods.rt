@@ -5,11 +5,12 @@
 //! ```
 
 ghost use Rattle.std.specs.Prelude.{◌≡◌, ◌≤◌, codes};
+ghost use Rattle.spec_reading.specs.Lookahead as lookahead;
 ghost use Rattle.spec_reading.specs.ReadContract as spec;
 ghost use Rattle.token_reading.specs.Reads.{Reads};
 
 use crate::clause::term_from;
-use java_tokens::{Operator, TokenKind};
+use java_tokens::{Keyword, Operator, TokenKind};
 use spec_trees::{SpecTree, TermTree};
 use std::alloc::Global;
 use token_reading::{Ident, Refusal, Tokens, TypeTree};
@@ -22,6 +23,29 @@ fn sees_spec(tokens: &Tokens<'_>) -> bool
         Some(TokenKind::Ident(name)) => name.characters() == ['s', 'p', 'e', 'c'].as_slice(),
         _ => false,
     }
+}
+
+/// Whether the base of a type comes next.
+fn sees_base(tokens: &Tokens<'_>) -> bool
+    ensures { result ≡ lookahead.sees_base tokens.now }
+{
+    match tokens.peek() {
+        Some(TokenKind::Ident(_)) => true,
+        Some(TokenKind::Word(word)) => matches!(word, Keyword::Int | Keyword::Boolean),
+        _ => false,
+    }
+}
+
+/// Whether `spec`, a type and an identifier come next, with which each spec method begins.
+pub fn sees_spec_method(tokens: &Tokens<'_>) -> bool
+    ensures { result ≡ lookahead.is_spec tokens.now }
+{
+    let mut ty = tokens.fork();
+    ty.skip();
+    let mut name = ty.fork();
+    name.skip();
+    name.skip_brackets();
+    sees_spec(tokens) && sees_base(&ty) && name.sees_name()
 }
 
 /// Takes the identifier `spec`.

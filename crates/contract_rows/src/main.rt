@@ -5,6 +5,8 @@
 //! word TEXT. A source is a spec method where the block's name begins with `Spec`, and else a contract.
 #![tactic(auto)]
 
+ghost use Rattle.std.specs.Prelude.{◌<◌, ◌^◌, length};
+
 use java_tokens::{Token, tokens};
 use spec_syntax::{ParseError, parse_contract, parse_spec_method};
 use std::alloc::{AllocError, Global};
@@ -68,7 +70,9 @@ fn answer(alloc: Global, is_spec: bool, source: &str) -> Result<String, AllocErr
 }
 
 /// The number of the token after the contract or spec method that begins with the first token.
-fn end(alloc: Global, is_spec: bool, tokens: &[Token]) -> Result<u32, ParseError> {
+fn end(alloc: Global, is_spec: bool, tokens: &[Token]) -> Result<u32, ParseError>
+    requires { length tokens.now < 2 ^ 32 }
+{
     if is_spec {
         let (_, end) = parse_spec_method(alloc, tokens, 0)?;
         return Ok(end);

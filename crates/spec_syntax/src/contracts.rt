@@ -27,7 +27,10 @@ fn contract_node(alloc: Global, tokens: &mut Tokens<'_>, most: u32) -> Result<Co
     })
 }
 
-/// Takes a contract of at most this height.
+/// Takes the contract of at most this height that stands here, before a token that binds to no term.
+///
+/// `NoTree` comes only where no contract of any height does, `TooHigh` only where each that does is higher, and
+/// `OutOfMemory` for any tokens; after a refusal some of the tokens may have been taken.
 #[tactic(auto, unfolding(spec_reading::specs::ReadContract::read_contract))]
 pub fn contract(alloc: Global, tokens: &mut Tokens<'_>, most: u32) -> Result<ContractTree, Refusal>
     requires { most ≤ 200 }

@@ -119,7 +119,10 @@ fn spec_node(alloc: Global, tokens: &mut Tokens<'_>, most: u32) -> Result<SpecTr
     declared(alloc, tokens, most, at)
 }
 
-/// Takes a spec method of at most this height.
+/// Takes the spec method of at most this height that stands here.
+///
+/// `NoTree` comes only where none of any height does, `TooHigh` only where each that does is higher, and `OutOfMemory`
+/// for any tokens; after a refusal some of the tokens may have been taken.
 #[tactic(auto, unfolding(spec_reading::specs::ReadContract::read_spec))]
 pub fn spec_method(alloc: Global, tokens: &mut Tokens<'_>, most: u32) -> Result<SpecTree, Refusal>
     requires { most ≤ 200 }

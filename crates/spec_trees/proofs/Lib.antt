@@ -1,0 +1,3 @@
+pub mod LinkHeights
+pub mod TermHeights
+pub mod WordLemmas

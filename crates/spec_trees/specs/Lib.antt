@@ -1,0 +1,5 @@
+pub mod Words
+pub mod Links
+pub mod Terms
+pub mod Clauses
+pub mod Height

@@ -1,0 +1,5 @@
+pub mod Paths
+pub mod Scope
+pub mod Views
+pub mod Meaning
+pub mod Verdicts
